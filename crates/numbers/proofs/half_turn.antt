@@ -1,0 +1,5 @@
+pub mod Rounding
+pub mod Shift
+pub mod Lists
+pub mod Tables
+pub mod Bound

@@ -1,0 +1,4 @@
+pub mod Double
+pub mod Sum
+pub mod Root
+pub mod HalfTurn

@@ -1,0 +1,14 @@
+-- Sums of doubles: left to right in rising index, from the first term. Definitions only.
+use Prim.Native.Nat.{ℕ, zero, suc}
+use lib.Ieee.{Float}
+use Rattle.numbers.specs.Double.{_⊕_, _⊖_}
+
+-- f 0 + f 1 + .. + f n
+unfoldable pub sumTo : (ℕ → Float) → ℕ → Float
+sumTo f zero = f zero
+sumTo f (suc n) = sumTo f n ⊕ f (suc n)
+
+-- x - f 0 - .. - f (n - 1)
+unfoldable pub lessTo : Float → (ℕ → Float) → ℕ → Float
+lessTo x f zero = x
+lessTo x f (suc n) = lessTo x f n ⊖ f n
