@@ -1,6 +1,9 @@
 -- Doubles: IEEE 754's binary64, of lib.Ieee. Each operation rounds its exact result once, to the nearest, ties to even. Definitions only.
-use Prim.Native.Nat.{ℕ}
-use lib.Ieee.{Float, binary64, add, sub, mul, div, ofBits}
+use mathlib.Core.List.{List}
+use mathlib.Core.Bool.{Bool, true, false, cond, _&&_}
+use Prim.Native.Nat.{ℕ, zero, suc}
+use lib.ListN.{getD, length}
+use lib.Ieee.{Float, nan, inf, fin, binary64, add, sub, mul, div, lt, ofBits}
 
 infixl 60 _⊕_ _⊖_
 infixl 70 _⊗_ _⊘_
@@ -32,3 +35,38 @@ abbrev pub 1·0 : Float
 
 abbrev pub 2·0 : Float
 2·0 = bits 0x4000_0000_0000_0000
+
+-- ---- one double
+
+unfoldable pub finite : Float → Bool
+finite nan = false
+finite (inf s) = false
+finite (fin s m e) = true
+
+-- |x|
+unfoldable pub absOf : Float → Float
+absOf nan = nan
+absOf (inf s) = inf false
+absOf (fin s m e) = fin false m e
+
+-- the larger
+unfoldable pub maxOf : Float → Float → Float
+maxOf a b = cond (lt a b) b a
+
+-- ---- lists of them
+
+-- the first n of v are finite
+unfoldable pub finiteTo : List Float → ℕ → Bool
+finiteTo v zero = true
+finiteTo v (suc n) = finiteTo v n && finite (getD v n nan)
+
+abbrev pub allFinite : List Float → Bool
+allFinite v = finiteTo v (length v)
+
+-- the largest of 0, |v 0|, .., |v (n - 1)|
+unfoldable pub amaxTo : List Float → ℕ → Float
+amaxTo v zero = 0·0
+amaxTo v (suc n) = maxOf (amaxTo v n) (absOf (getD v n nan))
+
+abbrev pub amaxOf : List Float → Float
+amaxOf v = amaxTo v (length v)

@@ -2,3 +2,8 @@ pub mod Double
 pub mod Sum
 pub mod Root
 pub mod HalfTurn
+pub mod Vec3
+pub mod Quaternion
+pub mod Mat3
+pub mod Mat6
+pub mod Cholesky

@@ -1,0 +1,47 @@
+-- 6×6 matrices, row by row in one list of 36: entry (i, j) stands at i * 6 + j. A vector is a list of six. Definitions only.
+use mathlib.Core.List.{List, [], _∷_, _++_}
+use Prim.Native.Nat.{ℕ, zero, suc, _+_, _*_, _/_, _%_}
+use lib.ListN.{getD}
+use lib.Ieee.{Float, nan}
+use Rattle.numbers.specs.Double.{_⊕_, _⊗_}
+use Rattle.numbers.specs.Sum.{sumTo}
+
+abbrev pub cell : List Float → ℕ → ℕ → Float
+cell m i j = getD m (i * 6 + j) nan
+
+-- f 0, f 1, .., f (n - 1)
+unfoldable pub tab : (ℕ → Float) → ℕ → List Float
+tab f zero = []
+tab f (suc n) = tab f n ++ f n ∷ []
+
+-- the matrix whose entry (i, j) is f i j
+abbrev pub matBy : (ℕ → ℕ → Float) → List Float
+matBy f = tab (λ t. f (t / 6) (t % 6)) 36
+
+unfoldable pub plusOf : List Float → List Float → List Float
+unfolding tab
+plusOf a b = tab (λ t. getD a t nan ⊕ getD b t nan) 36
+
+unfoldable pub transposeOf : List Float → List Float
+unfolding tab
+transposeOf m = matBy (λ i j. cell m j i)
+
+-- row i of m v
+unfoldable pub rowOf : List Float → List Float → ℕ → Float
+unfolding sumTo
+rowOf m v i = sumTo (λ k. cell m i k ⊗ getD v k nan) 5
+
+-- m v
+unfoldable pub applyOf : List Float → List Float → List Float
+unfolding tab
+applyOf m v = tab (rowOf m v) 6
+
+-- entry (i, j) of a b
+unfoldable pub entryOf : List Float → List Float → ℕ → ℕ → Float
+unfolding sumTo
+entryOf a b i j = sumTo (λ k. cell a i k ⊗ cell b k j) 5
+
+-- a b
+unfoldable pub timesOf : List Float → List Float → List Float
+unfolding tab
+timesOf a b = matBy (entryOf a b)
