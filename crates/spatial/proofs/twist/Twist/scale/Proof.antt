@@ -1,0 +1,17 @@
+use borrow.Author.Needs.{needs}
+use Rattle.spatial.specs.Twist.{scaleOf}
+use Rattle.spatial.proofs.twist.Twist.scale.Statement.{statement}
+use Rattle.spatial.proofs.twist.Twist.scale.Tie as tie
+
+scale-requires : tie.Need-scale-requires
+scale-requires c κs = search needs
+
+scale-requires-2 : tie.Need-scale-requires-2
+scale-requires-2 c κs = search needs
+
+returns : tie.Need-returns
+unfolding scaleOf
+returns c = cc
+
+pub scale-spec : {M : Type 1} → statement M
+scale-spec = tie.close (tie.spec scale-requires scale-requires-2 returns)

@@ -1,0 +1,4 @@
+pub mod Frame
+pub mod Twist
+pub mod Wrench
+pub mod Operators
