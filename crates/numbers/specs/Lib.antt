@@ -1,5 +1,6 @@
 pub mod Double
 pub mod Sum
+pub mod Table
 pub mod Root
 pub mod HalfTurn
 pub mod Vec3

@@ -1,18 +1,14 @@
 -- 6×6 matrices, row by row in one list of 36: entry (i, j) stands at i * 6 + j. A vector is a list of six. Definitions only.
-use mathlib.Core.List.{List, [], _∷_, _++_}
-use Prim.Native.Nat.{ℕ, zero, suc, _+_, _*_, _/_, _%_}
+use mathlib.Core.List.{List}
+use Prim.Native.Nat.{ℕ, _+_, _*_, _/_, _%_}
 use lib.ListN.{getD}
 use lib.Ieee.{Float, nan}
 use Rattle.numbers.specs.Double.{_⊕_, _⊗_}
 use Rattle.numbers.specs.Sum.{sumTo}
+use Rattle.numbers.specs.Table.{tab}
 
 abbrev pub cell : List Float → ℕ → ℕ → Float
 cell m i j = getD m (i * 6 + j) nan
-
--- f 0, f 1, .., f (n - 1)
-unfoldable pub tab : (ℕ → Float) → ℕ → List Float
-tab f zero = []
-tab f (suc n) = tab f n ++ f n ∷ []
 
 -- the matrix whose entry (i, j) is f i j
 abbrev pub matBy : (ℕ → ℕ → Float) → List Float

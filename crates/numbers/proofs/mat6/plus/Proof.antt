@@ -6,7 +6,7 @@ use lib.Ieee.{Float, nan}
 use Rattle.numbers.specs.Double.{_⊕_}
 use borrow.Author.Needs.{needs}
 use Rattle.numbers.specs.Mat6.{plusOf}
-use Rattle.numbers.proofs.mat6.Filled.{Filled, none, more, full}
+use Rattle.numbers.proofs.Filled.{Filled, none, more, full}
 use Rattle.numbers.proofs.mat6.plus.Statement.{statement}
 use Rattle.numbers.proofs.mat6.plus.Tie as tie
 

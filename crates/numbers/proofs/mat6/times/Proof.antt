@@ -4,7 +4,7 @@ use Prim.Native.Nat.{ℕ, _-_, _/_, _%_, zero-le}
 use lib.Ieee.{Float}
 use borrow.Author.Needs.{needs}
 use Rattle.numbers.specs.Mat6.{entryOf, timesOf}
-use Rattle.numbers.proofs.mat6.Filled.{Filled, none, more, full}
+use Rattle.numbers.proofs.Filled.{Filled, none, more, full}
 use Rattle.numbers.proofs.mat6.times.Statement.{statement}
 use Rattle.numbers.proofs.mat6.times.Tie as tie
 
