@@ -59,10 +59,7 @@ add-result-2 c =
     let z = leadingZeros 64 s in
     let w = s * 2 ^ shift z (c .before .exponent .result) % 18446744073709551616 in
     let r : c .digits .result < 18014398509481984 = root-small (c .digits .result) w (mod-lt (s * 2 ^ shift z (c .before .exponent .result)) (pow-pos 64)) (c .digits .ensures .0) in
-    record { fits = below (c .digits .result) r }
-  where
-    below : (r : ℕ) → r < 18014398509481984 → r + 1 < 18446744073709551616
-    below r h = omega arith
+    omega arith
 
 add-result-3 : tie.Need-add-result-3
 add-result-3 c = search needs

@@ -1,0 +1,38 @@
+use Rattle.slots.specs.Slots.{putFrame}
+use borrow.Author.Needs.{needs}
+use Rattle.slots.proofs.put_frame.Statement.{statement}
+use Rattle.slots.proofs.put_frame.Tie as tie
+
+put-number-requires : tie.Need-put-number-requires
+put-number-requires c κs = search needs
+
+add-put-vec3 : tie.Need-add-put-vec3
+add-put-vec3 c = search needs
+
+put-vec3-requires : tie.Need-put-vec3-requires
+put-vec3-requires c κs = search needs
+
+add-put-vec3-2 : tie.Need-add-put-vec3-2
+add-put-vec3-2 c = search needs
+
+put-vec3-requires-2 : tie.Need-put-vec3-requires-2
+put-vec3-requires-2 c κs = search needs
+
+same-length : tie.Need-same-length
+same-length c = search needs
+
+returns : tie.Need-returns
+unfolding putFrame
+returns c = cc
+
+pub put-frame-spec : {M : Type 1} → statement M
+put-frame-spec =
+    tie.close
+    (tie.spec
+    put-number-requires
+    add-put-vec3
+    put-vec3-requires
+    add-put-vec3-2
+    put-vec3-requires-2
+    same-length
+    returns)

@@ -1,0 +1,52 @@
+use native.Mathlib.Omega.{arith}
+use Rattle.slots.specs.Slots.{putVec3}
+use borrow.Author.Needs.{needs}
+use lib.ListN.{length-set}
+use Rattle.slots.proofs.put_vec3.Statement.{statement}
+use Rattle.slots.proofs.put_vec3.Tie as tie
+
+mul-s : tie.Need-mul-s
+mul-s c = search needs
+
+slice-write-s : tie.Need-slice-write-s
+slice-write-s c = search needs
+
+add-s : tie.Need-add-s
+add-s c = search needs
+
+mul-s-2 : tie.Need-mul-s-2
+mul-s-2 c = search needs
+
+slice-write-s-2 : tie.Need-slice-write-s-2
+slice-write-s-2 c = simp length-set (omega arith)
+
+add-s-2 : tie.Need-add-s-2
+add-s-2 c = search needs
+
+mul-s-3 : tie.Need-mul-s-3
+mul-s-3 c = search needs
+
+slice-write-s-3 : tie.Need-slice-write-s-3
+slice-write-s-3 c = simp length-set (omega arith)
+
+same-length : tie.Need-same-length
+same-length c = search needs
+
+returns : tie.Need-returns
+unfolding putVec3
+returns c = search needs
+
+pub put-vec3-spec : {M : Type 1} → statement M
+put-vec3-spec =
+    tie.close
+    (tie.spec
+    mul-s
+    slice-write-s
+    add-s
+    mul-s-2
+    slice-write-s-2
+    add-s-2
+    mul-s-3
+    slice-write-s-3
+    same-length
+    returns)

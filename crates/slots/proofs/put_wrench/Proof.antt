@@ -1,0 +1,24 @@
+use Rattle.slots.specs.Slots.{putWrench}
+use borrow.Author.Needs.{needs}
+use Rattle.slots.proofs.put_wrench.Statement.{statement}
+use Rattle.slots.proofs.put_wrench.Tie as tie
+
+put-vec3-requires : tie.Need-put-vec3-requires
+put-vec3-requires c κs = search needs
+
+add-put-vec3 : tie.Need-add-put-vec3
+add-put-vec3 c = search needs
+
+put-vec3-requires-2 : tie.Need-put-vec3-requires-2
+put-vec3-requires-2 c κs = search needs
+
+same-length : tie.Need-same-length
+same-length c = search needs
+
+returns : tie.Need-returns
+unfolding putWrench
+returns c = cc
+
+pub put-wrench-spec : {M : Type 1} → statement M
+put-wrench-spec =
+    tie.close (tie.spec put-vec3-requires add-put-vec3 put-vec3-requires-2 same-length returns)
