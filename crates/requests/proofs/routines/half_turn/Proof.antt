@@ -1,0 +1,55 @@
+-- `routines::half_turn` meets its contract. Each way out is its case of `halfTurnText`.
+use borrow.Author.Needs.{needs}
+use Rattle.requests.specs.Routines.{halfTurnText}
+use Rattle.requests.proofs.routines.half_turn.Statement.{statement}
+use Rattle.requests.proofs.routines.half_turn.Tie as tie
+
+only-double-requires : tie.Need-only-double-requires
+only-double-requires c κs = search needs
+
+enum-known-q : tie.Need-enum-known-q
+enum-known-q c = search needs
+
+half-turn-requires : tie.Need-half-turn-requires
+half-turn-requires c κs = search needs
+
+put-half-turn-requires : tie.Need-put-half-turn-requires
+put-half-turn-requires c κs = search needs
+
+enum-told : tie.Need-enum-told
+enum-told c = search needs
+
+error-requires : tie.Need-error-requires
+error-requires c κs = search needs
+
+same-length : tie.Need-same-length
+same-length c = search needs
+
+returns : tie.Need-returns
+unfolding halfTurnText
+returns c =
+    let p = c .before .before in
+    let x = p .before .before .before .before in
+    (search needs, search needs, rw (← x .before .before .only-double .ensures, x .q .given .1, ← p .before .half-turn .ensures) (p .put-half-turn .ensures .2))
+
+same-length-2 : tie.Need-same-length-2
+same-length-2 c = search needs
+
+returns-2 : tie.Need-returns-2
+unfolding halfTurnText
+returns-2 c = (search needs, search needs, rw (← c .before .before .before .before .before .before .only-double .ensures, c .before .before .before .before .enum-told .given .1) (c .before .before .error .ensures .2))
+
+pub half-turn-spec : {M : Type 1} → statement M
+half-turn-spec =
+    tie.close
+    (tie.spec
+    only-double-requires
+    enum-known-q
+    half-turn-requires
+    put-half-turn-requires
+    enum-told
+    error-requires
+    same-length
+    returns
+    same-length-2
+    returns-2)

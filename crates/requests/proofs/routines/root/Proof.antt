@@ -1,0 +1,55 @@
+-- `routines::root` meets its contract. Each way out is its case of `rootText`.
+use borrow.Author.Needs.{needs}
+use Rattle.requests.specs.Routines.{rootText}
+use Rattle.requests.proofs.routines.root.Statement.{statement}
+use Rattle.requests.proofs.routines.root.Tie as tie
+
+only-double-requires : tie.Need-only-double-requires
+only-double-requires c κs = search needs
+
+enum-known-x : tie.Need-enum-known-x
+enum-known-x c = search needs
+
+sqrt-requires : tie.Need-sqrt-requires
+sqrt-requires c κs = search needs
+
+put-root-requires : tie.Need-put-root-requires
+put-root-requires c κs = search needs
+
+enum-told : tie.Need-enum-told
+enum-told c = search needs
+
+error-requires : tie.Need-error-requires
+error-requires c κs = search needs
+
+same-length : tie.Need-same-length
+same-length c = search needs
+
+returns : tie.Need-returns
+unfolding rootText
+returns c =
+    let p = c .before .before in
+    let x = p .before .before .before .before in
+    (search needs, search needs, rw (← x .before .before .only-double .ensures, x .x .given .1, ← p .before .sqrt .ensures .0) (p .put-root .ensures .2))
+
+same-length-2 : tie.Need-same-length-2
+same-length-2 c = search needs
+
+returns-2 : tie.Need-returns-2
+unfolding rootText
+returns-2 c = (search needs, search needs, rw (← c .before .before .before .before .before .before .only-double .ensures, c .before .before .before .before .enum-told .given .1) (c .before .before .error .ensures .2))
+
+pub root-spec : {M : Type 1} → statement M
+root-spec =
+    tie.close
+    (tie.spec
+    only-double-requires
+    enum-known-x
+    sqrt-requires
+    put-root-requires
+    enum-told
+    error-requires
+    same-length
+    returns
+    same-length-2
+    returns-2)

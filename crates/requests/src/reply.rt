@@ -1,0 +1,14 @@
+// What every request shares: the answer to a line that is none.
+ghost use mathlib.Core.Path.{_≡_};
+ghost use mathlib.Core.List.{_++_};
+ghost use Prim.Native.Nat.{_+_, _≤_};
+ghost use lib.ListN.{length, take};
+ghost use Rattle.requests.specs.Reply.{room, errorText};
+use words::write::put;
+
+pub fn error(out: &mut [u8], at: usize) -> usize
+    requires { ⌜ at + room ≤ length (now out) ⌝ }
+    ensures { λ r. ⌜ (at ≤ r) × (r ≤ at + room) × (take r (now (out .exit)) ≡ take at (now (out .entry)) ++ errorText) ⌝ }
+{
+    put(out, at, b"error\n")
+}

@@ -1,0 +1,4 @@
+pub mod Line
+pub mod List
+pub mod Read
+pub mod Write
