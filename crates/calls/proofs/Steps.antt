@@ -1,0 +1,43 @@
+-- Visits in a row, of any calculation. Assumes nothing.
+use mathlib.Core.Bool.{Bool, true, false}
+use mathlib.Core.Path.{_≡_, refl}
+use Prim.Native.Nat.{ℕ, zero, suc, _-_, _≤_, _<_}
+use native.Mathlib.Omega.{arith}
+use Rattle.calls.specs.Position.{Work, State, advancedBy, stepOf, iterate}
+
+abbrev pub visits : State → ℕ
+visits s = s .0 .position .visits
+
+abbrev pub closed : State → Bool
+closed s = s .0 .position .closed
+
+-- one visit of a run, and what is left of its budget
+pub iterate-next : {S : Type 0} (f : S → S) (k : ℕ) (s : S) → 0 < k → iterate f (k - 1) (f s) ≡ iterate f k s
+unfolding iterate
+iterate-next f zero s h = absurd (omega arith)
+iterate-next f (suc k) s h = let e : suc k - 1 ≡ k = omega arith in rw e
+
+module _ (w : Work) where
+  pub step-closed : (s : State) → closed s ≡ true → stepOf w s ≡ s
+  unfolding stepOf
+  step-closed s e = rw e
+
+  -- a closed state stays, whatever the budget
+  pub run-closed : (k : ℕ) (s : State) → closed s ≡ true → iterate (stepOf w) k s ≡ s
+  unfolding iterate
+  run-closed zero s e = refl
+  run-closed (suc k) s e = rw (step-closed s e) (run-closed k s e)
+
+  step-forth : (s : State) → visits s ≤ visits (stepOf w s)
+  unfolding stepOf advancedBy
+  step-forth s = go (closed s) refl
+    where
+      go : (b : Bool) → closed s ≡ b → visits s ≤ visits (stepOf w s)
+      go true e = rw e (omega arith)
+      go false e = rw e (omega arith)
+
+  -- no visit is taken back
+  pub run-forth : (k : ℕ) (s : State) → visits s ≤ visits (iterate (stepOf w) k s)
+  unfolding iterate
+  run-forth zero s = omega arith
+  run-forth (suc k) s = let a = step-forth s in let b = run-forth k (stepOf w s) in omega arith

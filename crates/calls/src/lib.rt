@@ -1,0 +1,2 @@
+// What both calculations share: the position, its portions, how a calculation closes, and the checks that both make.
+pub mod position;
