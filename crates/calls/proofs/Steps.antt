@@ -1,9 +1,12 @@
 -- Visits in a row, of any calculation. Assumes nothing.
 use mathlib.Core.Bool.{Bool, true, false}
+use mathlib.Core.List.{List}
 use mathlib.Core.Path.{_≡_, refl}
 use Prim.Native.Nat.{ℕ, zero, suc, _-_, _≤_, _<_}
 use native.Mathlib.Omega.{arith}
-use Rattle.calls.specs.Position.{Work, State, advancedBy, stepOf, iterate}
+use lib.Ieee.{Float}
+use Rattle.calls.specs.declared.position.Outcome.{Outcome}
+use Rattle.calls.specs.Position.{State, advancedBy, stepBy, iterate}
 
 abbrev pub visits : State → ℕ
 visits s = s .0 .position .visits
@@ -17,27 +20,27 @@ unfolding iterate
 iterate-next f zero s h = absurd (omega arith)
 iterate-next f (suc k) s h = let e : suc k - 1 ≡ k = omega arith in rw e
 
-module _ (w : Work) where
-  pub step-closed : (s : State) → closed s ≡ true → stepOf w s ≡ s
-  unfolding stepOf
+module _ (visit : ℕ → List Float → Outcome × List Float) (results : ℕ) where
+  pub step-closed : (s : State) → closed s ≡ true → stepBy visit results s ≡ s
+  unfolding stepBy
   step-closed s e = rw e
 
   -- a closed state stays, whatever the budget
-  pub run-closed : (k : ℕ) (s : State) → closed s ≡ true → iterate (stepOf w) k s ≡ s
+  pub run-closed : (k : ℕ) (s : State) → closed s ≡ true → iterate (stepBy visit results) k s ≡ s
   unfolding iterate
   run-closed zero s e = refl
   run-closed (suc k) s e = rw (step-closed s e) (run-closed k s e)
 
-  step-forth : (s : State) → visits s ≤ visits (stepOf w s)
-  unfolding stepOf advancedBy
+  step-forth : (s : State) → visits s ≤ visits (stepBy visit results s)
+  unfolding stepBy advancedBy
   step-forth s = go (closed s) refl
     where
-      go : (b : Bool) → closed s ≡ b → visits s ≤ visits (stepOf w s)
+      go : (b : Bool) → closed s ≡ b → visits s ≤ visits (stepBy visit results s)
       go true e = rw e (omega arith)
       go false e = rw e (omega arith)
 
   -- no visit is taken back
-  pub run-forth : (k : ℕ) (s : State) → visits s ≤ visits (iterate (stepOf w) k s)
+  pub run-forth : (k : ℕ) (s : State) → visits s ≤ visits (iterate (stepBy visit results) k s)
   unfolding iterate
   run-forth zero s = omega arith
-  run-forth (suc k) s = let a = step-forth s in let b = run-forth k (stepOf w s) in omega arith
+  run-forth (suc k) s = let a = step-forth s in let b = run-forth k (stepBy visit results s) in omega arith

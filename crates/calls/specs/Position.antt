@@ -36,12 +36,18 @@ pub record Work : Type 0 where
 
 -- ---- positions
 
+abbrev pub freshAt : Bool → Bool → ℕ → ℕ → Position
+freshAt matrix floating n a = record { matrix = matrix; floating = floating; n = n; a = a; visits = 0; closed = false }
+
 abbrev pub fresh : Work → Position
-fresh w = record { matrix = w .matrix; floating = w .floating; n = w .n; a = w .a; visits = 0; closed = false }
+fresh w = freshAt (w .matrix) (w .floating) (w .n) (w .a)
 
 -- what a refused start gives
+abbrev pub shutAt : Bool → Bool → Position
+shutAt matrix floating = record { matrix = matrix; floating = floating; n = 0; a = 0; visits = 0; closed = true }
+
 abbrev pub shut : Work → Position
-shut w = record { matrix = w .matrix; floating = w .floating; n = 0; a = 0; visits = 0; closed = true }
+shut w = shutAt (w .matrix) (w .floating)
 
 -- whether two flags agree
 abbrev pub alike : Bool → Bool → Bool
@@ -81,12 +87,16 @@ closing at Open ws out = (ws, out)
 closing at Accepted ws out = (cleared ws, partOf ws at (length out))
 closing at (Refused number p) ws out = (cleared ws, out)
 
-abbrev pub landed : Work → State → Outcome × List Float → State
-landed w s e = let b = closing (w .results) (e .0) (e .1) (s .2) in (advancedBy (s .0 .position) (e .0), b .0, b .1)
+-- what a visit's outcome and its workspace make of a state
+abbrev pub landed : ℕ → State → Outcome × List Float → State
+landed results s e = let b = closing results (e .0) (e .1) (s .2) in (advancedBy (s .0 .position) (e .0), b .0, b .1)
 
 -- the next visit; a closed state stays
-unfoldable pub stepOf : Work → State → State
-stepOf w s = cond (s .0 .position .closed) s (landed w s (w .visit (s .0 .position .visits) (s .1)))
+unfoldable pub stepBy : (ℕ → List Float → Outcome × List Float) → ℕ → State → State
+stepBy visit results s = cond (s .0 .position .closed) s (landed results s (visit (s .0 .position .visits) (s .1)))
+
+abbrev pub stepOf : Work → State → State
+stepOf w s = stepBy (w .visit) (w .results) s
 
 unfoldable pub iterate : {S : Type 0} → (S → S) → ℕ → S → S
 iterate f zero s = s
@@ -104,6 +114,9 @@ opening p = record { position = p; outcome = Open }
 unfoldable pub answerBy : Position → Progress → Answer
 answerBy p s = record { position = s .position; outcome = s .outcome; visits = s .position .visits - p .visits }
 
+unfoldable pub begunAt : Position → Answer
+begunAt p = record { position = p; outcome = Open; visits = 0 }
+
 unfoldable pub refusedAt : Position → ℕ → Place → Answer
 refusedAt p number i = record { position = p; outcome = Refused number i; visits = 0 }
 
@@ -118,7 +131,7 @@ unless (verdict.Refused number i) p ws out r = (refusedAt p number i, ws, out)
 
 -- a start makes all checks to 22, makes the workspace +0.0 and gives position 0
 unfoldable pub startOf : Work → List Float → List Float → Result
-startOf w ws out = unless (w .inputs (length ws) (length out)) (shut w) ws out (record { position = fresh w; outcome = Open; visits = 0 }, cleared ws, out)
+startOf w ws out = unless (w .inputs (length ws) (length out)) (shut w) ws out (begunAt (fresh w), cleared ws, out)
 
 -- a portion repeats them, judges the position, and makes as many visits as it may
 unfoldable pub portionOf : Work → ℕ → Position → List Float → List Float → Result

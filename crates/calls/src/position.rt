@@ -2,7 +2,7 @@
 ghost use mathlib.Core.Path.{_≡_};
 ghost use Prim.Native.Nat.{_+_, _≤_, _<_};
 ghost use lib.ListN.{length};
-ghost use Rattle.calls.specs.Position.{visitsOf, alike, positionVerdict, ended, advancedBy, closing, answerBy, refusedAt};
+ghost use Rattle.calls.specs.Position.{visitsOf, alike, freshAt, shutAt, positionVerdict, ended, advancedBy, closing, answerBy, begunAt, refusedAt};
 use numbers::double;
 use refusals::Place;
 use refusals::Verdict;
@@ -68,6 +68,20 @@ fn has_ended(o: Outcome) -> bool
 }
 
 impl Position {
+    // The first position of a calculation.
+    pub fn fresh(matrix: bool, floating: bool, n: usize, a: usize) -> Position
+        ensures { λ r. ⌜ r ≡ freshAt matrix floating n a ⌝ }
+    {
+        Position { matrix, floating, n, a, visits: 0, closed: false }
+    }
+
+    // What a refused start gives.
+    pub fn shut(matrix: bool, floating: bool) -> Position
+        ensures { λ r. ⌜ r ≡ shutAt matrix floating ⌝ }
+    {
+        Position { matrix, floating, n: 0, a: 0, visits: 0, closed: true }
+    }
+
     // 23 and 24, for a call of this calculation on this root and model.
     pub fn judged(self, matrix: bool, floating: bool, n: usize, a: usize) -> Verdict
         requires { ⌜ (n ≤ 32) × (a ≤ 32) ⌝ }
@@ -115,6 +129,13 @@ impl Position {
             outcome,
             visits: position.visits - self.visits,
         }
+    }
+
+    // The answer of a start.
+    pub fn begun(self) -> Answer
+        ensures { λ r. ⌜ r ≡ begunAt self ⌝ }
+    {
+        Answer { position: self, outcome: Outcome::Open, visits: 0 }
     }
 
     // A refusal that made no visit.

@@ -8,7 +8,6 @@ use Rattle.numbers.specs.Root.{rootOf}
 use Rattle.numbers.specs.HalfTurn.{halfTurnOf}
 use Rattle.numbers.specs.declared.root.Root.{Root}
 use Rattle.numbers.specs.declared.root.Root.the-variants.{Is as Root·Is, No as Root·No}
-use Rattle.numbers.specs.declared.half_turn.SinCos.{SinCos}
 use Rattle.numbers.specs.declared.half_turn.HalfTurn.{HalfTurn}
 use Rattle.numbers.specs.declared.half_turn.HalfTurn.the-variants.{Of, OutOfRange}
 use Rattle.requests.specs.declared.routines.Only.{Only}

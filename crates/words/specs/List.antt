@@ -4,7 +4,6 @@ use mathlib.Core.Bool.{cond}
 use mathlib.Core.List.{List}
 use lib.ListN.{set}
 use lib.Dec.{ltb}
-use Rattle.words.specs.declared.read.Cursor.{Cursor}
 use Rattle.words.specs.declared.list.Listed.{Listed}
 use Rattle.words.specs.declared.list.Listed.the-variants.{Got, Bad}
 use Rattle.words.specs.Read.{nextOf, ifNext}

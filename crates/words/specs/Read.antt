@@ -4,7 +4,6 @@ use mathlib.Core.Bool.{Bool, true, false, not, cond}
 use mathlib.Core.List.{List, [], _∷_}
 use lib.ListN.{length, drop, take}
 use lib.Dec.{ltb, leb, eqb}
-use Rattle.words.specs.declared.read.Cursor.{Cursor}
 use Rattle.words.specs.declared.read.Number.{Number}
 use Rattle.words.specs.declared.read.Number.the-variants.{Is, No}
 use Rattle.words.specs.declared.read.Next.{Next}

@@ -6,12 +6,9 @@ use Prim.Native.Nat.{ℕ, _≤_}
 use lib.Dec.{eqb}
 use lib.ListN.{length, drop}
 use lib.Ieee.{binary64, ofBits}
-use Rattle.words.specs.declared.read.Cursor.{Cursor}
-use Rattle.words.specs.declared.read.Next.{Next}
 use Rattle.words.specs.declared.read.Next.the-variants.{Is as NextIs, No as NextNo}
 use Rattle.words.specs.Read.{wordsOf, firstWord, startOf, nextOf, ifNext}
 use Rattle.words.proofs.read.Words.{number-at, end-at}
-use Rattle.requests.specs.declared.routines.Only.{Only}
 use Rattle.requests.specs.declared.routines.Only.the-variants.{Is, No}
 use Rattle.requests.specs.Routines.{onlyOf}
 

@@ -7,8 +7,6 @@ use native.Mathlib.Numerals.{add-one}
 use native.Mathlib.Omega.{arith}
 use lib.ListN.{set}
 use borrow.Author.Tests.{lt-ltb, le-ltb}
-use Rattle.words.specs.declared.read.Cursor.{Cursor}
-use Rattle.words.specs.declared.read.Next.{Next}
 use Rattle.words.specs.declared.read.Next.the-variants.{Is as NextIs, No as NextNo}
 use Rattle.words.specs.declared.list.Listed.{Listed}
 use Rattle.words.specs.declared.list.Listed.the-variants.{Got, Bad}

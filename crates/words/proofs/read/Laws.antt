@@ -14,8 +14,6 @@ use lib.Ieee.{Float, nan, inf, fin, binary64, ofBits, isNan, nanBits, div}
 use lib.Ieee.Bits.{nanBits-is, nanBits-above}
 use Rattle.words.specs.declared.read.Number.{Number}
 use Rattle.words.specs.declared.read.Number.the-variants.{Is, No}
-use Rattle.words.specs.declared.read.Cursor.{Cursor}
-use Rattle.words.specs.declared.read.Next.{Next}
 use Rattle.words.specs.declared.read.Next.the-variants.{Is as NextIs, No as NextNo}
 use Rattle.words.specs.Read.{runOf, startOf, stopOf, wordAt, nextOf, sameOf, digitOf, readFrom, numberOf}
 

@@ -1,14 +1,14 @@
 -- The words of a line, and the places at which `next_word` and `at_end` find them. Assumes nothing.
 use mathlib.Core.Path.{_≡_, refl, sym, ap, _∙_}
 use mathlib.Core.Logic.{_⊎_, inl, inr, ⊎-elim}
-use mathlib.Core.Bool.{Bool, true, false, not, cond}
+use mathlib.Core.Bool.{Bool, true, false, cond}
 use mathlib.Core.List.{List, [], _∷_}
-use Prim.Native.Nat.{ℕ, suc, zero-le, suc-le-suc, _+_, _-_, _≤_, _<_}
+use Prim.Native.Nat.{ℕ, suc, zero-le, suc-le-suc, _+_, _-_, _≤_}
 use native.Mathlib.Omega.{arith}
 use lib.Dec.{eqb}
-use lib.ListN.{length, take, drop, length-drop, drop-of-length-le}
+use lib.ListN.{length, take, drop, length-drop}
 use lib.Seq.{drop-drop, drop-nil}
-use borrow.Author.Tests.{eqb-true, eqb-false, eq-eqb, ne-eqb}
+use borrow.Author.Tests.{eq-eqb, ne-eqb}
 use Rattle.words.specs.declared.read.Number.{Number}
 use Rattle.words.specs.declared.read.Number.the-variants.{Is, No}
 use Rattle.words.specs.Read.{runOf, isSpace, isLetter, ahead, cutOf, wordsOf, firstWord, startOf, stopOf, wordAt, numberOf, ifNumber, firstNumber, nextFrom, nextOf, ifNext}

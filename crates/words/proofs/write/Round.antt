@@ -15,8 +15,7 @@ use lib.Ieee.Bits.{ofBits-toBits, toBits-lt}
 use lib.Ieee.Compare.{differs-from-itself, nan-differs}
 use borrow.Author.Tests.{ne-eqb, lt-ltb, le-ltb, le-leb, lt-leb, ltb-true, ltb-false}
 use Rattle.io.specs.Digits.{digits, glyph, Fewest}
-use Rattle.words.specs.declared.read.Number.{Number}
-use Rattle.words.specs.declared.read.Number.the-variants.{Is, No}
+use Rattle.words.specs.declared.read.Number.the-variants.{Is}
 use Rattle.words.specs.Read.{digitOf, readFrom, numberOf}
 use Rattle.words.specs.Write.{bytes, fewestFrom, widthText, hexText, doubleText}
 

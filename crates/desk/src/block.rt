@@ -1,0 +1,69 @@
+// The answers to the lines of a block of input.
+ghost use mathlib.Core.Path.{_≡_};
+ghost use mathlib.Core.List.{_++_};
+ghost use Prim.Native.Nat.{_+_, _≤_, _<_};
+ghost use lib.ListN.{length, take};
+ghost use Rattle.requests.specs.Reply.{room};
+ghost use Rattle.desk.specs.Block.{endText, Moved};
+use requests::answer::answer;
+use requests::reply::ROOM;
+use requests::reply::error;
+use words::line::gather;
+
+// Where reading stands in the block, the length of the line so far, whether it has grown too long, and where the answers end.
+pub struct Stand {
+    pub next: usize,
+    pub len: usize,
+    pub over: bool,
+    pub wait: usize,
+}
+
+// The answer to a line that has ended.
+pub fn end_line(line: &[u8], len: usize, over: bool, out: &mut [u8; 262144], at: usize) -> usize
+    requires { ⌜ (len ≤ length (now line)) × (at ≤ room) ⌝ }
+    ensures { λ r. ⌜ (r ≤ at + room) × (take r (now (out .exit)) ≡ take at (now (out .entry)) ++ endText (take len (now (line .entry)), over)) ⌝ }
+{
+    if over {
+        return error(out, at);
+    }
+    answer(&line[..len], out, at)
+}
+
+// The line's bytes up to its newline, and its answer; or up to the block's end.
+fn step(block: &[u8], s: Stand, line: &mut [u8; 65536], out: &mut [u8; 262144]) -> Stand
+    requires { ⌜ (s .next < length (now block)) × (s .len < 65536) × (s .wait ≤ room) ⌝ }
+    ensures bounds { λ r. ⌜ (s .next < r .next) × (r .next ≤ length (now (block .entry))) × (r .len < 65536) × (r .wait ≤ 262144) ⌝ }
+    ensures moved { λ r. ⌜ Moved (now (block .entry)) s (now (line .entry)) (now (out .entry)) r (now (line .exit)) (now (out .exit)) ⌝ }
+{
+    let wait = s.wait;
+    let p = gather(block, s.next, line, s.len, s.over);
+    let next = p.next;
+    if next < block.len() {
+        let a = end_line(line, p.len, p.over, out, wait);
+        return Stand {
+            next: next + 1,
+            len: 0,
+            over: false,
+            wait: a,
+        };
+    }
+    Stand {
+        next,
+        len: p.len,
+        over: p.over,
+        wait,
+    }
+}
+
+// The block's bytes, as far as `out` has room for one more answer.
+pub fn answers(block: &[u8], s: Stand, line: &mut [u8; 65536], out: &mut [u8; 262144]) -> Stand
+    requires { ⌜ (s .next < length (now block)) × (s .len < 65536) × (s .wait ≤ room) ⌝ }
+    ensures bounds { λ r. ⌜ (s .next < r .next) × (r .next ≤ length (now (block .entry))) × (r .len < 65536) × (r .wait ≤ 262144) ⌝ }
+    ensures moved { λ r. ⌜ Moved (now (block .entry)) s (now (line .entry)) (now (out .entry)) r (now (line .exit)) (now (out .exit)) ⌝ }
+{
+    let mut r = step(block, s, line, out);
+    while r.next < block.len() && r.wait <= ROOM {
+        r = step(block, r, line, out);
+    }
+    r
+}
