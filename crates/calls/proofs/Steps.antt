@@ -6,7 +6,8 @@ use Prim.Native.Nat.{ℕ, zero, suc, _-_, _≤_, _<_}
 use native.Mathlib.Omega.{arith}
 use lib.Ieee.{Float}
 use Rattle.calls.specs.declared.position.Outcome.{Outcome}
-use Rattle.calls.specs.Position.{State, advancedBy, stepBy, iterate}
+use Rattle.calls.specs.Position.{State, advancedBy, closing, landed, stepBy, iterate}
+use Rattle.calls.specs.declared.position.Progress.{Progress}
 
 abbrev pub visits : State → ℕ
 visits s = s .0 .position .visits
@@ -44,3 +45,8 @@ module _ (visit : ℕ → List Float → Outcome × List Float) (results : ℕ) 
   unfolding iterate
   run-forth zero s = omega arith
   run-forth (suc k) s = let a = step-forth s in let b = run-forth k (stepBy visit results s) in omega arith
+
+-- a visit, put together from what it gave, what closing made of the buffers and the position after it
+pub landed-is : (results : ℕ) (s : State) {e : Outcome × List Float} {o : Outcome} {ws ws′ out′ : List Float} {t : Progress}
+    → (o, ws) ≡ e → (ws′, out′) ≡ closing results o ws (s .2) → t ≡ advancedBy (s .0 .position) o → (t, ws′, out′) ≡ landed results s e
+landed-is results s a b d = rw (← a, ← b, d)

@@ -1,0 +1,6 @@
+pub mod Read
+pub mod Joint
+pub mod Model
+pub mod Topology
+pub mod Checks
+pub mod Build
