@@ -26,6 +26,10 @@ module _ (visit : ℕ → List Float → Outcome × List Float) (results : ℕ) 
   unfolding stepBy
   step-closed s e = rw e
 
+  pub step-open : (s : State) → closed s ≡ false → stepBy visit results s ≡ landed results s (visit (visits s) (s .1))
+  unfolding stepBy
+  step-open s e = rw e
+
   -- a closed state stays, whatever the budget
   pub run-closed : (k : ℕ) (s : State) → closed s ≡ true → iterate (stepBy visit results) k s ≡ s
   unfolding iterate

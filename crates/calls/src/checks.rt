@@ -23,7 +23,13 @@ pub fn check_length(number: u8, length: usize, wanted: usize) -> Verdict
     refusals::plain(number, length != wanted)
 }
 
-fn bad_value<'a>(kinds: &'a [u8; 32], numbers: &'a [u8; 33], q: &'a [f64], n: usize, j: usize) -> bool
+fn bad_value<'a>(
+    kinds: &'a [u8; 32],
+    numbers: &'a [u8; 33],
+    q: &'a [f64],
+    n: usize,
+    j: usize,
+) -> bool
     requires { ⌜ (now numbers ≡ activeNumbers (now kinds)) × (n ≤ 32) × (j < n) × (length (now q) ≡ activesOf (now kinds) n) ⌝ }
     ensures { λ r. ⌜ r ≡ badValue (now (kinds .entry)) (now (q .entry)) j ⌝ }
 {
@@ -65,7 +71,13 @@ pub fn check_values<'a>(
     refusals::named(finite, lowest_bad_value(kinds, numbers, q, n))
 }
 
-fn far_turn<'a>(kinds: &'a [u8; 32], numbers: &'a [u8; 33], q: &'a [f64], n: usize, j: usize) -> bool
+fn far_turn<'a>(
+    kinds: &'a [u8; 32],
+    numbers: &'a [u8; 33],
+    q: &'a [f64],
+    n: usize,
+    j: usize,
+) -> bool
     requires { ⌜ (now numbers ≡ activeNumbers (now kinds)) × (n ≤ 32) × (j < n) × (length (now q) ≡ activesOf (now kinds) n) ⌝ }
     ensures { λ r. ⌜ r ≡ farTurn (now (kinds .entry)) (now (q .entry)) j ⌝ }
 {
@@ -75,7 +87,12 @@ fn far_turn<'a>(kinds: &'a [u8; 32], numbers: &'a [u8; 33], q: &'a [f64], n: usi
 }
 
 // 13: the lowest turn whose value is beyond the limit.
-pub fn check_turns<'a>(kinds: &'a [u8; 32], numbers: &'a [u8; 33], n: usize, q: &'a [f64]) -> Verdict
+pub fn check_turns<'a>(
+    kinds: &'a [u8; 32],
+    numbers: &'a [u8; 33],
+    n: usize,
+    q: &'a [f64],
+) -> Verdict
     requires { ⌜ (now numbers ≡ activeNumbers (now kinds)) × (n ≤ 32) × (length (now q) ≡ activesOf (now kinds) n) ⌝ }
     ensures { λ r. ⌜ r ≡ turnsVerdict (now (kinds .entry)) n (now (q .entry)) ⌝ }
 {

@@ -72,14 +72,28 @@ impl Position {
     pub fn fresh(matrix: bool, floating: bool, n: usize, a: usize) -> Position
         ensures { λ r. ⌜ r ≡ freshAt matrix floating n a ⌝ }
     {
-        Position { matrix, floating, n, a, visits: 0, closed: false }
+        Position {
+            matrix,
+            floating,
+            n,
+            a,
+            visits: 0,
+            closed: false,
+        }
     }
 
     // What a refused start gives.
     pub fn shut(matrix: bool, floating: bool) -> Position
         ensures { λ r. ⌜ r ≡ shutAt matrix floating ⌝ }
     {
-        Position { matrix, floating, n: 0, a: 0, visits: 0, closed: true }
+        Position {
+            matrix,
+            floating,
+            n: 0,
+            a: 0,
+            visits: 0,
+            closed: true,
+        }
     }
 
     // 23 and 24, for a call of this calculation on this root and model.
@@ -135,7 +149,11 @@ impl Position {
     pub fn begun(self) -> Answer
         ensures { λ r. ⌜ r ≡ begunAt self ⌝ }
     {
-        Answer { position: self, outcome: Outcome::Open, visits: 0 }
+        Answer {
+            position: self,
+            outcome: Outcome::Open,
+            visits: 0,
+        }
     }
 
     // A refusal that made no visit.

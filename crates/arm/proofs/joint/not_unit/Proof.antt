@@ -8,7 +8,7 @@ abs-requires c κs = search needs
 
 returns : tie.Need-returns
 unfolding notUnit
-returns c = cc
+returns c = rw (c .abs .ensures)
 
 pub not-unit-spec : {M : Type 1} → statement M
 not-unit-spec = tie.close (tie.spec abs-requires returns)

@@ -1,22 +1,11 @@
-use mathlib.Core.Path.{_≡_, refl, sym, ap, _∙_, subst}
-use mathlib.Core.List.{List}
-use mathlib.Core.Bool.{Bool, true, false, not, cond, _&&_}
-use Prim.Native.Nat.{ℕ, suc, _+_, _-_, _*_, _≤_, _<_}
-use native.Mathlib.Numerals.{add-one}
-use native.Mathlib.Omega.{arith}
-use lib.ListN.{length, getD, set}
-use lib.Ieee.{Float, nan}
-use Rattle.calls.specs.Position.{visitsOf, positionVerdict, ended, advancedBy, closing, answerBy, begunAt, refusedAt}
+use mathlib.Core.Path.{ap}
+use Prim.Native.Nat.{_-_}
 use borrow.Author.Needs.{needs}
-use Rattle.refusals.specs.Refusals.{lowest, namedOf, plainOf, orElse}
+use Rattle.refusals.specs.Refusals.{lowest, namedOf}
 use Rattle.refusals.proofs.Searches.{Looks, looks-lowest, looks-hit, looks-next, looks-last}
-use Rattle.calls.specs.Checks.{badValue, farTurn, valuesVerdict, turnsVerdict, badRotation}
-use borrow.Author.Tests.{eq-eqb, ne-eqb}
+use Rattle.calls.specs.Checks.{farTurn, turnsVerdict}
 use Rattle.calls.proofs.checks.check_turns.Statement.{statement}
 use Rattle.calls.proofs.checks.check_turns.Tie as tie
-use Rattle.calls.proofs.checks.check_turns.Reads as reads
-use Rattle.calls.proofs.checks.check_turns.Lts as lts
-use Rattle.calls.proofs.checks.far_turn.Reads as far-turn-reads
 
 abbrev Inv-loop : tie.InvT-loop
 Inv-loop kinds numbers n q j₀ j = Looks (farTurn kinds q) n (lowest (farTurn kinds q) n) j
@@ -24,32 +13,25 @@ Inv-loop kinds numbers n q j₀ j = Looks (farTurn kinds q) n (lowest (farTurn k
 abbrev μ-loop : tie.MeasureT-loop
 μ-loop kinds numbers n q j₀ j = n - j
 
--- src/checks.rt:83:5
 loop-holds : tie.Need-loop-holds Inv-loop μ-loop
 loop-holds c = looks-lowest _ _
 
--- src/checks.rt:84:12
 far-turn-requires : tie.Need-far-turn-requires Inv-loop μ-loop
 far-turn-requires c κs = search needs
 
--- src/checks.rt:85:13
 returns : tie.Need-returns Inv-loop μ-loop
 unfolding turnsVerdict namedOf
 returns c = let b1 = c .before in let b2 = b1 .before in let b3 = b2 .before in ap (namedOf 13) (looks-hit _ _ _ _ (b3 .loop .inv) (b2 .loop-test .taken) (rw (b1 .far-turn .ensures) at (c .if1 .taken)))
 
--- src/checks.rt:87:9
 add-j : tie.Need-add-j Inv-loop μ-loop
 add-j c = search needs
 
--- src/checks.rt:83:5
 loop-less : tie.Need-loop-less Inv-loop μ-loop
 loop-less c = search needs
 
--- src/checks.rt:83:5
 loop-again : tie.Need-loop-again Inv-loop μ-loop
 loop-again c = let b1 = c .before in let b2 = b1 .before in let b3 = b2 .before in looks-next _ _ _ _ (b3 .loop .inv) (b2 .loop-test .taken) (rw (b1 .far-turn .ensures) at (c .if1 .left))
 
--- src/checks.rt:78:1
 returns-2 : tie.Need-returns-2 Inv-loop μ-loop
 unfolding turnsVerdict namedOf
 returns-2 c = let b1 = c .before in ap (namedOf 13) (looks-last _ _ _ _ (b1 .loop .inv) (c .loop-test .left))
@@ -67,4 +49,3 @@ check-turns-spec =
     loop-less
     loop-again
     returns-2)
-

@@ -1,0 +1,34 @@
+-- A column that is not refused lies in its matrix. Assumes nothing.
+use mathlib.Core.Bool.{Bool, true, false, not, _||_, true≢false}
+use mathlib.Core.Path.{_≡_, refl}
+use Prim.Native.Nat.{ℕ, _+_, _*_, _≤_}
+use native.Mathlib.Nat.{suc-mul, mul-le-mul-right}
+use native.Mathlib.Omega.{arith}
+use borrow.Author.Tests.{ltb-false, leb-false, eqb-true}
+use lib.Dec.{eqb, leb, ltb}
+use Rattle.mass_matrix.specs.Column.{badColumn}
+use Rattle.mass_matrix.proofs.plan.Squares.{small-square}
+
+neither : (a b : Bool) → (a || b) ≡ false → (a ≡ false) × (b ≡ false)
+neither true b e = absurd (true≢false e)
+neither false b e = (refl, e)
+
+not-not : (b : Bool) → not b ≡ false → b ≡ true
+not-not true e = refl
+not-not false e = absurd (true≢false e)
+
+pub record Inside (side column length : ℕ) : Type 0 where
+  pub within : column * side + side ≤ length
+  pub small : length ≤ 1444
+
+pub inside : (side column length : ℕ) → badColumn side column length ≡ false → Inside side column length
+unfolding badColumn
+inside side column length e =
+    let long = not (eqb length (side * side)) in
+    let far = leb side column in
+    let a = neither (ltb 38 side) (long || far) (neither (eqb side 0) (ltb 38 side || (long || far)) e .1) in
+    let b = neither long far (a .1) in
+    let low = leb-false side column (b .1) in
+    let wide = ltb-false 38 side (a .0) in
+    let square = eqb-true length (side * side) (not-not (eqb length (side * side)) (b .0)) in
+    record { within = omega (arith, suc-mul column side, mul-le-mul-right side low, square); small = omega (arith, small-square side wide, square) }

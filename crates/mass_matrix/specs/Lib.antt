@@ -1,0 +1,6 @@
+pub mod Plan
+pub mod Composite
+pub mod Walk
+pub mod Kernel
+pub mod MassMatrix
+pub mod Column
