@@ -9,7 +9,7 @@ use lib.Ieee.{Float}
 use Rattle.numbers.specs.Double.{allFinite}
 use Rattle.refusals.specs.Refusals.{lowest, namedOf, plainOf, orElse}
 use Rattle.refusals.specs.declared.Verdict.{Verdict}
-use Rattle.arm.specs.Read.{vecAt, frameAt}
+use Rattle.slots.specs.Slots.{vec3At, frameAt}
 use Rattle.arm.specs.Joint.{keptAxis, notUnit}
 use Rattle.arm.specs.Model.{kindOf, badParent, badKind}
 use Rattle.arm.specs.declared.joint.Axis.{Axis}
@@ -23,7 +23,7 @@ sizedBy n parents kinds origins axes links = eqb parents n && eqb kinds n && eqb
 
 -- the axis that joint j keeps
 unfoldable pub axisOf : List ℕ → List Float → ℕ → Axis
-axisOf kinds axes j = keptAxis (kindOf kinds j) (vecAt axes (j * 3))
+axisOf kinds axes j = keptAxis (kindOf kinds j) (vec3At axes (j * 3))
 
 -- 5: the axis rule
 abbrev pub refused : Axis → Bool

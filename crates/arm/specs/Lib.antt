@@ -1,4 +1,3 @@
-pub mod Read
 pub mod Joint
 pub mod Model
 pub mod Topology

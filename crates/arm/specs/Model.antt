@@ -8,7 +8,7 @@ use lib.Ieee.{Float, nan}
 use Rattle.numbers.specs.Double.{0·0}
 use Rattle.numbers.specs.Table.{tab}
 use Rattle.refusals.specs.Refusals.{lowest, found}
-use Rattle.arm.specs.Read.{vecAt, frameAt}
+use Rattle.slots.specs.Slots.{vec3At, frameAt}
 use Rattle.arm.specs.Joint.{motionBy}
 use Rattle.arm.specs.declared.joint.Joint.{Joint}
 use Rattle.arm.specs.declared.joint.Motion.{Motion}
@@ -42,7 +42,7 @@ abbrev pub kindOf : List ℕ → ℕ → ℕ
 kindOf kinds j = getD kinds j 0
 
 unfoldable pub motionOf : List ℕ → List Float → ℕ → Motion
-motionOf kinds axes j = motionBy (kindOf kinds j) (vecAt axes (j * 3))
+motionOf kinds axes j = motionBy (kindOf kinds j) (vec3At axes (j * 3))
 
 unfoldable pub jointOf : List ℕ → List ℕ → List Float → List Float → ℕ → Joint
 jointOf parents kinds origins axes j = record { parent = parentOf parents j; motion = motionOf kinds axes j; origin = frameAt origins (j * 7) }
@@ -51,11 +51,11 @@ jointOf parents kinds origins axes j = record { parent = parentOf parents j; mot
 unfoldable pub linkOf : List Float → ℕ → Link
 linkOf links l =
     let at = l * 10 in
-    let a = vecAt links (at + 4) in
-    let b = vecAt links (at + 7) in
+    let a = vec3At links (at + 4) in
+    let b = vec3At links (at + 7) in
     record {
       mass = getD links at nan;
-      moment = vecAt links (at + 1);
+      moment = vec3At links (at + 1);
       inertia = record { r0 = a; r1 = record { x = a .y; y = b .x; z = b .y }; r2 = record { x = a .z; y = b .y; z = b .z } };
     }
 

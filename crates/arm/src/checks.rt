@@ -7,7 +7,6 @@ ghost use Rattle.arm.specs.Model.{badParent, badKind};
 ghost use Rattle.arm.specs.Checks.{Sized, sizedBy, axisOf, badAxis, badRow, badRotation, listsVerdict, verdictOf};
 use crate::joint;
 use crate::joint::Axis;
-use crate::read;
 use numbers::double;
 use refusals::Place;
 use refusals::Verdict;
@@ -55,7 +54,7 @@ pub fn axis_at<'a>(kinds: &'a [u64], axes: &'a [f64], j: usize) -> Axis
     requires { ⌜ (j < length (now kinds)) × (j * 3 + 3 ≤ length (now axes)) ⌝ }
     ensures { λ r. ⌜ r ≡ axisOf (now (kinds .entry)) (now (axes .entry)) j ⌝ }
 {
-    joint::kept_axis(kinds[j], read::vec_at(axes, j * 3))
+    joint::kept_axis(kinds[j], slots::vec3_at(axes, j * 3))
 }
 
 fn bad_axis<'a>(n: usize, kinds: &'a [u64], axes: &'a [f64]) -> Place
@@ -98,7 +97,7 @@ fn bad_rotation(n: usize, origins: &[f64]) -> Place
 {
     let mut j: usize = 0;
     while j < n {
-        let origin = read::frame_at(origins, j * 7);
+        let origin = slots::frame_at(origins, j * 7);
         if joint::not_unit(origin.rotation) {
             return Place::At(j);
         }

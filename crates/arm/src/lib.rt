@@ -3,5 +3,4 @@ pub mod build;
 pub mod checks;
 pub mod joint;
 pub mod model;
-pub mod read;
 pub mod topology;

@@ -6,7 +6,6 @@ ghost use Rattle.arm.specs.Joint.{kindNumber};
 ghost use Rattle.arm.specs.Model.{emptyModel, Tree, Good, parentOf, kindOf, motionOf, jointOf, linkOf, wildJoint, wildOf};
 use crate::joint::Joint;
 use crate::joint::Motion;
-use crate::read;
 use numbers::mat3::Mat3;
 use numbers::vec3::Vec3;
 
@@ -52,7 +51,7 @@ pub fn motion_at<'a>(kinds: &'a [u8; 32], axes: &'a [f64; 96], j: usize) -> Moti
     ensures { λ r. ⌜ r ≡ motionOf (now (kinds .entry)) (now (axes .entry)) j ⌝ }
 {
     let kind = kinds[j];
-    let axis = read::vec_at(axes, j * 3);
+    let axis = slots::vec3_at(axes, j * 3);
     if kind == 0 {
         return Motion::Turn(axis);
     }
@@ -75,7 +74,7 @@ pub fn joint_at<'a>(
 {
     let parent = parent_at(n, parents, j);
     let motion = motion_at(kinds, axes, j);
-    let origin = read::frame_at(origins, j * 7);
+    let origin = slots::frame_at(origins, j * 7);
     Joint {
         parent,
         motion,
@@ -89,9 +88,9 @@ pub fn link_at(links: &[f64; 330], l: usize) -> Link
 {
     let at = l * 10;
     let mass = links[at];
-    let moment = read::vec_at(links, at + 1);
-    let a = read::vec_at(links, at + 4);
-    let b = read::vec_at(links, at + 7);
+    let moment = slots::vec3_at(links, at + 1);
+    let a = slots::vec3_at(links, at + 4);
+    let b = slots::vec3_at(links, at + 7);
     let inertia = Mat3 {
         r0: a,
         r1: Vec3 {

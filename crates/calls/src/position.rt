@@ -180,8 +180,6 @@ pub fn close(o: Outcome, ws: &mut [f64], out: &mut [f64], at: usize)
             slots::copy_from(out, ws, at);
             slots::clear(ws);
         }
-        Outcome::Refused(_, _) => {
-            slots::clear(ws);
-        }
+        Outcome::Refused(_, _) => slots::clear(ws),
     }
 }

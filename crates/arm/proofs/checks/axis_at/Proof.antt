@@ -9,11 +9,11 @@ mul-kept-axis c = search needs
 shared-slice-read-kept-axis : tie.Need-shared-slice-read-kept-axis
 shared-slice-read-kept-axis c = search needs
 
-mul-vec-at : tie.Need-mul-vec-at
-mul-vec-at c = search needs
+mul-vec3-at : tie.Need-mul-vec3-at
+mul-vec3-at c = search needs
 
-vec-at-requires : tie.Need-vec-at-requires
-vec-at-requires c κs = search needs
+vec3-at-requires : tie.Need-vec3-at-requires
+vec3-at-requires c κs = search needs
 
 kept-axis-requires : tie.Need-kept-axis-requires
 kept-axis-requires c κs = search needs
@@ -28,7 +28,7 @@ axis-at-spec =
     (tie.spec
     mul-kept-axis
     shared-slice-read-kept-axis
-    mul-vec-at
-    vec-at-requires
+    mul-vec3-at
+    vec3-at-requires
     kept-axis-requires
     returns)

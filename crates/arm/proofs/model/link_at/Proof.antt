@@ -12,27 +12,27 @@ mul-mass c = search needs
 element-copy-out-mass : tie.Need-element-copy-out-mass
 element-copy-out-mass c = search needs
 
-add-vec-at : tie.Need-add-vec-at
-add-vec-at c = search needs
+add-vec3-at : tie.Need-add-vec3-at
+add-vec3-at c = search needs
 
-vec-at-requires : tie.Need-vec-at-requires
-vec-at-requires c κs = search needs
+vec3-at-requires : tie.Need-vec3-at-requires
+vec3-at-requires c κs = search needs
 
-add-vec-at-2 : tie.Need-add-vec-at-2
-add-vec-at-2 c = search needs
+add-vec3-at-2 : tie.Need-add-vec3-at-2
+add-vec3-at-2 c = search needs
 
-vec-at-requires-2 : tie.Need-vec-at-requires-2
-vec-at-requires-2 c κs = search needs
+vec3-at-requires-2 : tie.Need-vec3-at-requires-2
+vec3-at-requires-2 c κs = search needs
 
-add-vec-at-3 : tie.Need-add-vec-at-3
-add-vec-at-3 c = search needs
+add-vec3-at-3 : tie.Need-add-vec3-at-3
+add-vec3-at-3 c = search needs
 
-vec-at-requires-3 : tie.Need-vec-at-requires-3
-vec-at-requires-3 c κs = search needs
+vec3-at-requires-3 : tie.Need-vec3-at-requires-3
+vec3-at-requires-3 c κs = search needs
 
 returns : tie.Need-returns
 unfolding linkOf
-returns c = cc
+returns c = let b2 = c .before .before in let b4 = b2 .before .before in simp (c .vec3-at3 .ensures, b2 .vec3-at2 .ensures, b4 .vec3-at .ensures)
 
 pub link-at-spec : {M : Type 1} → statement M
 link-at-spec =
@@ -41,10 +41,10 @@ link-at-spec =
     mul-at
     mul-mass
     element-copy-out-mass
-    add-vec-at
-    vec-at-requires
-    add-vec-at-2
-    vec-at-requires-2
-    add-vec-at-3
-    vec-at-requires-3
+    add-vec3-at
+    vec3-at-requires
+    add-vec3-at-2
+    vec3-at-requires-2
+    add-vec3-at-3
+    vec3-at-requires-3
     returns)

@@ -8,11 +8,11 @@ use Rattle.arm.proofs.model.motion_at.Tie as tie
 element-copy-out-kind : tie.Need-element-copy-out-kind
 element-copy-out-kind c = search needs
 
-mul-vec-at : tie.Need-mul-vec-at
-mul-vec-at c = search needs
+mul-vec3-at : tie.Need-mul-vec3-at
+mul-vec3-at c = search needs
 
-vec-at-requires : tie.Need-vec-at-requires
-vec-at-requires c κs = search needs
+vec3-at-requires : tie.Need-vec3-at-requires
+vec3-at-requires c κs = search needs
 
 returns : tie.Need-returns
 unfolding motionOf motionBy
@@ -29,4 +29,4 @@ returns-3 c = simp (ne-eqb _ _ (c .before .if1 .left), ne-eqb _ _ (c .if2 .left)
 pub motion-at-spec : {M : Type 1} → statement M
 motion-at-spec =
     tie.close
-    (tie.spec element-copy-out-kind mul-vec-at vec-at-requires returns returns-2 returns-3)
+    (tie.spec element-copy-out-kind mul-vec3-at vec3-at-requires returns returns-2 returns-3)

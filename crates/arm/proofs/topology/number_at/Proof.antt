@@ -5,7 +5,7 @@ use native.Mathlib.Omega.{arith}
 use borrow.Author.Needs.{needs}
 use lib.ListN.{getD}
 use Rattle.arm.specs.Topology.{activesOf, activeNumbers}
-use Rattle.arm.proofs.Tables.{getD-tab}
+use Rattle.numbers.proofs.Tables.{getD-tab}
 use Rattle.arm.proofs.topology.Counts.{actives-le}
 use Rattle.arm.proofs.topology.number_at.Statement.{statement}
 use Rattle.arm.proofs.topology.number_at.Tie as tie
