@@ -1,5 +1,5 @@
 -- What a check that passed tells. Assumes nothing.
-use mathlib.Core.Bool.{Bool, true, false, not, _&&_, _||_, true≢false}
+use mathlib.Core.Bool.{Bool, true, false, not, _&&_, true≢false}
 use mathlib.Core.List.{List}
 use mathlib.Core.Path.{_≡_, refl}
 use Prim.Native.Nat.{ℕ, _≤_, _<_}
@@ -11,6 +11,7 @@ use Rattle.refusals.specs.Refusals.{lowest, found, plainOf}
 use Rattle.refusals.specs.declared.Place.{Place}
 use Rattle.refusals.specs.declared.Place.the-variants.{At, Nothing}
 use Rattle.refusals.specs.declared.Verdict.the-variants.{Fine}
+use Rattle.refusals.proofs.Flags.{neither, not-not}
 use Rattle.refusals.proofs.Verdicts.{plain-fine, both-fine}
 use Rattle.arm.specs.Model.{Good, wildJoint, wildOf}
 use Rattle.arm.specs.Topology.{activesOf}
@@ -18,10 +19,6 @@ use Rattle.arm.proofs.model.Known.{good}
 use Rattle.calls.specs.Checks.{valuesVerdict}
 use Rattle.calls.specs.Position.{visitsOf, positionVerdict}
 use Rattle.calls.specs.declared.position.Position.{Position}
-
-neither : (a b : Bool) → (a || b) ≡ false → (a ≡ false) × (b ≡ false)
-neither true b e = absurd (true≢false e)
-neither false b e = (refl, e)
 
 none : (p : Place) → found p ≡ false → p ≡ Nothing
 unfolding found
@@ -38,10 +35,6 @@ tame n parents kinds e =
 -- a length that is not short, and one that is as wanted
 pub not-short : (number a b : ℕ) → plainOf number (ltb a b) ≡ Fine → b ≤ a
 not-short number a b e = ltb-false a b (plain-fine number (ltb a b) e)
-
-not-not : (b : Bool) → not b ≡ false → b ≡ true
-not-not true e = refl
-not-not false e = absurd (true≢false e)
 
 pub as-wanted : (number a b : ℕ) → plainOf number (not (eqb a b)) ≡ Fine → a ≡ b
 as-wanted number a b e = eqb-true a b (not-not (eqb a b) (plain-fine number (not (eqb a b)) e))

@@ -1,5 +1,5 @@
 -- What a model that has none of the causes 1, 3 and 4 tells. Assumes nothing.
-use mathlib.Core.Bool.{Bool, true, false, _||_, true≢false}
+use mathlib.Core.Bool.{false}
 use mathlib.Core.List.{List}
 use mathlib.Core.Path.{_≡_, refl}
 use Prim.Native.Nat.{ℕ, zero, suc, _≤_, _<_}
@@ -9,6 +9,7 @@ use lib.Ieee.{Float}
 use Rattle.numbers.specs.declared.vec3.Vec3.{Vec3}
 use Rattle.refusals.specs.Refusals.{lowest}
 use Rattle.refusals.specs.declared.Place.the-variants.{Nothing}
+use Rattle.refusals.proofs.Flags.{neither}
 use Rattle.refusals.proofs.Searches.{lowest-none}
 use Rattle.arm.specs.Joint.{kindNumber, motionBy}
 use Rattle.arm.specs.Model.{Good, kindOf, badParent, badKind, motionOf, wildJoint}
@@ -24,10 +25,6 @@ kind-kept (suc (suc (suc kind))) axis h = absurd (omega arith)
 pub motion-kind : (kinds : List ℕ) (axes : List Float) (j : ℕ) → kindOf kinds j ≤ 2 → kindNumber (motionOf kinds axes j) ≡ kindOf kinds j
 unfolding motionOf
 motion-kind kinds axes j h = kind-kept _ _ h
-
-neither : (a b : Bool) → (a || b) ≡ false → (a ≡ false) × (b ≡ false)
-neither true b e = absurd (true≢false e)
-neither false b e = (refl, e)
 
 pub good : (n : ℕ) (parents kinds : List ℕ) → n ≤ 32 → lowest (wildJoint parents kinds) n ≡ Nothing → Good n parents kinds
 unfolding wildJoint

@@ -1,21 +1,14 @@
 -- A column that is not refused lies in its matrix. Assumes nothing.
-use mathlib.Core.Bool.{Bool, true, false, not, _||_, true≢false}
-use mathlib.Core.Path.{_≡_, refl}
+use mathlib.Core.Bool.{false, not, _||_}
+use mathlib.Core.Path.{_≡_}
 use Prim.Native.Nat.{ℕ, _+_, _*_, _≤_}
 use native.Mathlib.Nat.{suc-mul, mul-le-mul-right}
 use native.Mathlib.Omega.{arith}
 use borrow.Author.Tests.{ltb-false, leb-false, eqb-true}
 use lib.Dec.{eqb, leb, ltb}
+use Rattle.refusals.proofs.Flags.{neither, not-not}
 use Rattle.mass_matrix.specs.Column.{badColumn}
 use Rattle.mass_matrix.proofs.plan.Squares.{small-square}
-
-neither : (a b : Bool) → (a || b) ≡ false → (a ≡ false) × (b ≡ false)
-neither true b e = absurd (true≢false e)
-neither false b e = (refl, e)
-
-not-not : (b : Bool) → not b ≡ false → b ≡ true
-not-not true e = refl
-not-not false e = absurd (true≢false e)
 
 pub record Inside (side column length : ℕ) : Type 0 where
   pub within : column * side + side ≤ length
