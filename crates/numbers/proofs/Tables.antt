@@ -10,7 +10,7 @@ use lib.Seq.{getD-at}
 use Rattle.numbers.specs.Table.{tab}
 
 module _ {A : Type 0} (f : ℕ → A) where
-  length-tab : (n : ℕ) → length (tab f n) ≡ n
+  pub length-tab : (n : ℕ) → length (tab f n) ≡ n
   unfolding tab
   length-tab zero = refl
   length-tab (suc n) = length-append (tab f n) (f n ∷ []) ∙ omega (arith, length-tab n)
