@@ -1,32 +1,42 @@
 // The answers to the lines of a block of input.
 ghost use mathlib.Core.Path.{_≡_};
-ghost use mathlib.Core.List.{_++_};
 ghost use Prim.Native.Nat.{_+_, _≤_, _<_};
 ghost use lib.ListN.{length, take};
-ghost use Rattle.requests.specs.Reply.{room};
-ghost use Rattle.desk.specs.Block.{endText, Moved};
+ghost use Rattle.requests.specs.Reply.{room, behind};
+ghost use Rattle.desk.specs.Block.{endOf, Moved};
+use arm::model::Model;
 use requests::answer::answer;
 use requests::reply::ROOM;
+use requests::reply::Reply;
 use requests::reply::error;
 use words::line::gather;
 
-// Where reading stands in the block, the length of the line so far, whether it has grown too long, and where the answers end.
+// Where reading stands in the block, the length of the line so far, whether it has grown too long, where the answers end, and the current model.
 pub struct Stand {
     pub next: usize,
     pub len: usize,
     pub over: bool,
     pub wait: usize,
+    pub model: Model,
 }
 
 // The answer to a line that has ended.
-pub fn end_line(line: &[u8], len: usize, over: bool, out: &mut [u8; 262144], at: usize) -> usize
+pub fn end_line(
+    m: Model,
+    line: &[u8],
+    len: usize,
+    over: bool,
+    out: &mut [u8; 262144],
+    at: usize,
+) -> Reply
     requires { ⌜ (len ≤ length (now line)) × (at ≤ room) ⌝ }
-    ensures { λ r. ⌜ (r ≤ at + room) × (take r (now (out .exit)) ≡ take at (now (out .entry)) ++ endText (take len (now (line .entry)), over)) ⌝ }
+    ensures { λ r. ⌜ (r .end ≤ at + room) × ((take (r .end) (now (out .exit)), r .model) ≡ behind (take at (now (out .entry))) (endOf (m, (take len (now (line .entry)), over)))) ⌝ }
 {
     if over {
-        return error(out, at);
+        let end = error(out, at);
+        return Reply { end, model: m };
     }
-    answer(&line[..len], out, at)
+    answer(m, &line[..len], out, at)
 }
 
 // The line's bytes up to its newline, and its answer; or up to the block's end.
@@ -36,15 +46,18 @@ fn step(block: &[u8], s: Stand, line: &mut [u8; 65536], out: &mut [u8; 262144]) 
     ensures moved { λ r. ⌜ Moved (now (block .entry)) s (now (line .entry)) (now (out .entry)) r (now (line .exit)) (now (out .exit)) ⌝ }
 {
     let wait = s.wait;
+    let model = s.model;
     let p = gather(block, s.next, line, s.len, s.over);
     let next = p.next;
     if next < block.len() {
-        let a = end_line(line, p.len, p.over, out, wait);
+        let r = end_line(model, line, p.len, p.over, out, wait);
+        let model = r.model;
         return Stand {
             next: next + 1,
             len: 0,
             over: false,
-            wait: a,
+            wait: r.end,
+            model,
         };
     }
     Stand {
@@ -52,6 +65,7 @@ fn step(block: &[u8], s: Stand, line: &mut [u8; 65536], out: &mut [u8; 262144]) 
         len: p.len,
         over: p.over,
         wait,
+        model,
     }
 }
 

@@ -5,14 +5,17 @@ ghost use lib.ListN.{length};
 
 mod block;
 
+use arm::model;
+use arm::model::Model;
 use block::Stand;
 use block::answers;
 use block::end_line;
 
-// What is kept from block to block: the length of the line so far, whether it has grown too long, and whether to go on.
+// What is kept from block to block: the length of the line so far, whether it has grown too long, the current model, and whether to go on.
 struct Kept {
     len: usize,
     over: bool,
+    model: Model,
     live: bool,
 }
 
@@ -34,26 +37,32 @@ fn serve(block: &[u8], line: &mut [u8; 65536], out: &mut [u8; 262144], k: Kept) 
     requires { ⌜ k .len < 65536 ⌝ }
     ensures { λ r. ⌜ r .len < 65536 ⌝ }
 {
+    let model = k.model;
     let mut s = Stand {
         next: 0,
         len: k.len,
         over: k.over,
         wait: 0,
+        model,
     };
     let mut live = true;
     while s.next < block.len() && live {
         let r = answers(block, s, line, out);
         live = write_front(out, r.wait);
+        let model = r.model;
         s = Stand {
             next: r.next,
             len: r.len,
             over: r.over,
             wait: 0,
+            model,
         };
     }
+    let model = s.model;
     Kept {
         len: s.len,
         over: s.over,
+        model,
         live,
     }
 }
@@ -79,9 +88,11 @@ fn turn(block: &mut [u8; 65536], line: &mut [u8; 65536], out: &mut [u8; 262144],
 {
     let got = libc::read(0, block);
     if got <= 0 {
+        let model = k.model;
         return Kept {
             len: k.len,
             over: k.over,
+            model,
             live: false,
         };
     }
@@ -93,8 +104,8 @@ fn turn(block: &mut [u8; 65536], line: &mut [u8; 65536], out: &mut [u8; 262144],
 fn last(line: &[u8; 65536], out: &mut [u8; 262144], k: Kept)
     requires { ⌜ k .len < 65536 ⌝ }
 {
-    let n = end_line(line, k.len, k.over, out, 0);
-    write_front(out, n);
+    let r = end_line(k.model, line, k.len, k.over, out, 0);
+    write_front(out, r.end);
 }
 
 // A proved loop has to end, and nothing says that the input does: the turns are counted down from a number that no run uses up.
@@ -103,9 +114,11 @@ fn main() {
     let mut block = io::large_buffer();
     let mut line = io::large_buffer();
     let mut out = out_buffer();
+    let model = model::empty();
     let mut k = Kept {
         len: 0,
         over: false,
+        model,
         live: true,
     };
     let mut turns = u64::MAX;

@@ -1,3 +1,4 @@
 pub mod Answer
+pub mod Models
 pub mod Reply
 pub mod Routines

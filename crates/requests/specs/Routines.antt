@@ -1,8 +1,9 @@
--- The requests `root X` and `half_turn Q`, as functions of the words behind the first. Assumes nothing.
+-- The requests `root X` and `half_turn Q`, of the words behind the first. Assumes nothing.
 use Prim.Native.Nat.{ℕ}
 use mathlib.Core.List.{List, [], _∷_}
+use mathlib.Core.Option.{Option, none, some}
 use lib.Ieee.{Float, binary64, ofBits}
-use Rattle.words.specs.Read.{firstWord, firstNumber}
+use Rattle.words.specs.Read.{Reader, give, _>>=_, _>>_, number, end}
 use Rattle.words.specs.Write.{bytes, row, doubleText}
 use Rattle.numbers.specs.Root.{rootOf}
 use Rattle.numbers.specs.HalfTurn.{halfTurnOf}
@@ -12,28 +13,35 @@ use Rattle.numbers.specs.declared.half_turn.HalfTurn.{HalfTurn}
 use Rattle.numbers.specs.declared.half_turn.HalfTurn.the-variants.{Of, OutOfRange}
 use Rattle.requests.specs.declared.routines.Only.{Only}
 use Rattle.requests.specs.declared.routines.Only.the-variants.{Is, No}
-use Rattle.requests.specs.Reply.{errorText}
 
 -- one double, and no word behind it
-unfoldable pub onlyOf : List (List ℕ) → Only
-onlyOf ws = firstNumber ws (λ v rest. firstWord rest (λ w more. No) (Is (ofBits binary64 v))) No
+unfoldable pub onlyDouble : Reader Float
+onlyDouble = do
+  v ← number
+  end
+  give (ofBits binary64 v)
 
-abbrev pub ifOnly : {R : Type 0} → Only → (Float → R) → R → R
-ifOnly (Is x) go stop = go x
-ifOnly No go stop = stop
+-- what `only_double` has read
+abbrev pub onlyRead : Only → Option (Float × List (List ℕ))
+onlyRead (Is x) = some (x, [])
+onlyRead No = none
 
 abbrev pub rootLine : Root → List ℕ
 rootLine (Root·Is y) = row (bytes "root " ∷ doubleText y ∷ bytes "\n" ∷ [])
 rootLine Root·No = bytes "no root\n"
 
 -- ROOT X
-unfoldable pub rootText : List (List ℕ) → List ℕ
-rootText ws = ifOnly (onlyOf ws) (λ x. rootLine (rootOf x)) errorText
+unfoldable pub rootRequest : Reader (List ℕ)
+rootRequest = do
+  x ← onlyDouble
+  give (rootLine (rootOf x))
 
 abbrev pub halfTurnLine : HalfTurn → List ℕ
 halfTurnLine (Of v) = row (bytes "half_turn " ∷ doubleText (v .sin) ∷ bytes " " ∷ doubleText (v .cos) ∷ bytes "\n" ∷ [])
 halfTurnLine OutOfRange = bytes "out of range\n"
 
 -- HALF_TURN Q
-unfoldable pub halfTurnText : List (List ℕ) → List ℕ
-halfTurnText ws = ifOnly (onlyOf ws) (λ q. halfTurnLine (halfTurnOf q)) errorText
+unfoldable pub halfTurnRequest : Reader (List ℕ)
+halfTurnRequest = do
+  q ← onlyDouble
+  give (halfTurnLine (halfTurnOf q))

@@ -1,19 +1,25 @@
 // One line's answer.
 ghost use mathlib.Core.Path.{_≡_};
-ghost use mathlib.Core.List.{_++_};
 ghost use Prim.Native.Nat.{_+_, _≤_};
 ghost use lib.ListN.{length, take};
-ghost use Rattle.requests.specs.Reply.{room};
-ghost use Rattle.requests.specs.Answer.{nameOf, requestText, answerText};
+ghost use Rattle.words.specs.Read.{wordsOf};
+ghost use Rattle.requests.specs.Reply.{room, replyOf, behind};
+ghost use Rattle.requests.specs.Answer.{nameOf, requestOf, answerOf};
+use crate::models::lend;
+use crate::models::model;
+use crate::reply::Reply;
 use crate::reply::error;
 use crate::routines::half_turn;
 use crate::routines::root;
+use arm::model::Model;
 use words::read::Cursor;
 use words::read::next_word;
 use words::read::same;
 
 // The request that a word names.
 pub enum Name {
+    Model,
+    Lend,
     Root,
     HalfTurn,
     Unknown,
@@ -22,6 +28,12 @@ pub enum Name {
 fn name_of(w: &[u8]) -> Name
     ensures { λ r. ⌜ r ≡ nameOf (now (w .entry)) ⌝ }
 {
+    if same(w, b"model") {
+        return Name::Model;
+    }
+    if same(w, b"lend") {
+        return Name::Lend;
+    }
     if same(w, b"root") {
         return Name::Root;
     }
@@ -31,30 +43,43 @@ fn name_of(w: &[u8]) -> Name
     Name::Unknown
 }
 
-fn request(s: &[u8], out: &mut [u8], at: usize) -> usize
+fn request(m: Model, s: &[u8], out: &mut [u8], at: usize) -> Reply
     requires { ⌜ at + room ≤ length (now out) ⌝ }
-    ensures { λ r. ⌜ (at ≤ r) × (r ≤ at + room) × (take r (now (out .exit)) ≡ take at (now (out .entry)) ++ requestText (now (s .entry))) ⌝ }
+    ensures { λ r. ⌜ (at ≤ r .end) × (r .end ≤ at + room) × ((take (r .end) (now (out .exit)), r .model) ≡ behind (take at (now (out .entry))) (replyOf m (requestOf m (wordsOf (now (s .entry)))))) ⌝ }
 {
     let w = next_word(s, Cursor { at: 0 });
     let start = w.start;
     let stop = w.stop;
-    match name_of(&s[start..stop]) {
-        Name::Root => root(s, Cursor { at: stop }, out, at),
-        Name::HalfTurn => half_turn(s, Cursor { at: stop }, out, at),
-        Name::Unknown => error(out, at),
+    let name = name_of(&s[start..stop]);
+    let c = Cursor { at: stop };
+    match name {
+        Name::Model => model(m, s, c, out, at),
+        Name::Lend => lend(m, s, c, out, at),
+        Name::Root => {
+            let end = root(s, c, out, at);
+            Reply { end, model: m }
+        }
+        Name::HalfTurn => {
+            let end = half_turn(s, c, out, at);
+            Reply { end, model: m }
+        }
+        Name::Unknown => {
+            let end = error(out, at);
+            Reply { end, model: m }
+        }
     }
 }
 
-// Puts the answer to a line, its newline not counted, into `out` from `at` on, and says where it ends.
-pub fn answer(line: &[u8], out: &mut [u8], at: usize) -> usize
+// Puts the answer to a line, its newline not counted, into `out` from `at` on, and says where it ends and which model is current then.
+pub fn answer(m: Model, line: &[u8], out: &mut [u8], at: usize) -> Reply
     requires { ⌜ at + room ≤ length (now out) ⌝ }
-    ensures { λ r. ⌜ (at ≤ r) × (r ≤ at + room) × (take r (now (out .exit)) ≡ take at (now (out .entry)) ++ answerText (now (line .entry))) ⌝ }
+    ensures { λ r. ⌜ (at ≤ r .end) × (r .end ≤ at + room) × ((take (r .end) (now (out .exit)), r .model) ≡ behind (take at (now (out .entry))) (answerOf m (now (line .entry)))) ⌝ }
 {
     if line.len() == 0 {
-        return at;
+        return Reply { end: at, model: m };
     }
     if line[0] == b'#' {
-        return at;
+        return Reply { end: at, model: m };
     }
-    request(line, out, at)
+    request(m, line, out, at)
 }

@@ -2,10 +2,10 @@
 ghost use mathlib.Core.Path.{_≡_};
 ghost use mathlib.Core.List.{_++_};
 ghost use Prim.Native.Nat.{_+_, _≤_};
-ghost use lib.ListN.{length, take, drop};
-ghost use Rattle.words.specs.Read.{wordsOf};
-ghost use Rattle.requests.specs.Reply.{room};
-ghost use Rattle.requests.specs.Routines.{onlyOf, rootLine, rootText, halfTurnLine, halfTurnText};
+ghost use lib.ListN.{length, take};
+ghost use Rattle.words.specs.Read.{wordsAt};
+ghost use Rattle.requests.specs.Reply.{room, textOf};
+ghost use Rattle.requests.specs.Routines.{onlyDouble, onlyRead, rootLine, rootRequest, halfTurnLine, halfTurnRequest};
 use crate::reply::error;
 use numbers::half_turn::HalfTurn;
 use numbers::root::Root;
@@ -25,7 +25,7 @@ pub enum Only {
 
 fn only_double(s: &[u8], c: Cursor) -> Only
     requires { ⌜ c .at ≤ length (now s) ⌝ }
-    ensures { λ r. ⌜ r ≡ onlyOf (wordsOf (drop (c .at) (now (s .entry)))) ⌝ }
+    ensures { λ r. ⌜ onlyRead r ≡ onlyDouble (wordsAt (now (s .entry)) c) ⌝ }
 {
     match next_number(s, c) {
         Next::Is(v, d) => {
@@ -54,7 +54,7 @@ fn put_root(out: &mut [u8], at: usize, r: Root) -> usize
 
 pub fn root(s: &[u8], c: Cursor, out: &mut [u8], at: usize) -> usize
     requires { ⌜ (c .at ≤ length (now s)) × (at + room ≤ length (now out)) ⌝ }
-    ensures { λ r. ⌜ (at ≤ r) × (r ≤ at + room) × (take r (now (out .exit)) ≡ take at (now (out .entry)) ++ rootText (wordsOf (drop (c .at) (now (s .entry))))) ⌝ }
+    ensures { λ r. ⌜ (at ≤ r) × (r ≤ at + room) × (take r (now (out .exit)) ≡ take at (now (out .entry)) ++ textOf (rootRequest (wordsAt (now (s .entry)) c))) ⌝ }
 {
     match only_double(s, c) {
         Only::Is(x) => put_root(out, at, numbers::root::sqrt(x)),
@@ -80,7 +80,7 @@ fn put_half_turn(out: &mut [u8], at: usize, r: HalfTurn) -> usize
 
 pub fn half_turn(s: &[u8], c: Cursor, out: &mut [u8], at: usize) -> usize
     requires { ⌜ (c .at ≤ length (now s)) × (at + room ≤ length (now out)) ⌝ }
-    ensures { λ r. ⌜ (at ≤ r) × (r ≤ at + room) × (take r (now (out .exit)) ≡ take at (now (out .entry)) ++ halfTurnText (wordsOf (drop (c .at) (now (s .entry))))) ⌝ }
+    ensures { λ r. ⌜ (at ≤ r) × (r ≤ at + room) × (take r (now (out .exit)) ≡ take at (now (out .entry)) ++ textOf (halfTurnRequest (wordsAt (now (s .entry)) c))) ⌝ }
 {
     match only_double(s, c) {
         Only::Is(q) => put_half_turn(out, at, numbers::half_turn::half_turn(q)),

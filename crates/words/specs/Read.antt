@@ -1,9 +1,11 @@
--- What is read of a line: its words, and words as numbers. Assumes nothing.
+-- What is read of a line: its words, and readers of words. Assumes nothing.
 use Prim.Native.Nat.{ℕ, suc, _+_, _-_, _*_, _≤_}
 use mathlib.Core.Bool.{Bool, true, false, not, cond}
 use mathlib.Core.List.{List, [], _∷_}
-use lib.ListN.{length, drop, take}
+use mathlib.Core.Option.{Option, none, some}
+use lib.ListN.{length, drop}
 use lib.Dec.{ltb, leb, eqb}
+use Rattle.words.specs.declared.read.Cursor.{Cursor}
 use Rattle.words.specs.declared.read.Number.{Number}
 use Rattle.words.specs.declared.read.Number.the-variants.{Is, No}
 use Rattle.words.specs.declared.read.Next.{Next}
@@ -36,20 +38,14 @@ cutOf (b ∷ l) = cond (isSpace b) ([], ahead (cutOf l .0) (cutOf l .1)) (b ∷ 
 unfoldable pub wordsOf : List ℕ → List (List ℕ)
 wordsOf l = ahead (cutOf l .0) (cutOf l .1)
 
--- the first word and the words behind it; `stop` where there is none
-abbrev pub firstWord : {R : Type 0} → List (List ℕ) → (List ℕ → List (List ℕ) → R) → R → R
-firstWord [] go stop = stop
-firstWord (w ∷ ws) go stop = go w ws
+-- the first word and the words behind it; no byte where there is none
+abbrev pub firstOf : List (List ℕ) → List ℕ × List (List ℕ)
+firstOf [] = ([], [])
+firstOf (w ∷ ws) = (w, ws)
 
--- the same by places: where the next word from a place starts and stops, and its bytes
-unfoldable pub startOf : List ℕ → ℕ → ℕ
-startOf s at = at + runOf isSpace (drop at s)
-
-unfoldable pub stopOf : List ℕ → ℕ → ℕ
-stopOf s at = startOf s at + runOf isLetter (drop (startOf s at) s)
-
-unfoldable pub wordAt : List ℕ → ℕ → List ℕ
-wordAt s at = take (stopOf s at - startOf s at) (drop (startOf s at) s)
+abbrev pub noWord : List (List ℕ) → Bool
+noWord [] = true
+noWord (w ∷ ws) = false
 
 unfoldable pub sameOf : List ℕ → List ℕ → Bool
 sameOf [] [] = true
@@ -76,21 +72,49 @@ abbrev pub ifNumber : {R : Type 0} → Number → (ℕ → R) → R → R
 ifNumber (Is v) go stop = go v
 ifNumber No go stop = stop
 
--- the first word as a number
-unfoldable pub firstNumber : {R : Type 0} → List (List ℕ) → (ℕ → List (List ℕ) → R) → R → R
-firstNumber ws go stop = firstWord ws (λ w rest. ifNumber (numberOf w) (λ v. go v rest) stop) stop
+-- ---- A READER takes words off the front: what it makes of them, and the words behind; nothing where they are not as asked
+abbrev pub Reader : Type 0 → Type 0
+Reader A = List (List ℕ) → Option (A × List (List ℕ))
 
--- the same by places: the next word from a place as a number, and the cursor past it
-abbrev pub nextFrom : Number → ℕ → Next
-nextFrom (Is v) k = NextIs v (record { at = k })
-nextFrom No k = NextNo
+abbrev pub give : {A : Type 0} → A → Reader A
+give a ws = some (a, ws)
 
-unfoldable pub nextOf : List ℕ → ℕ → Next
-nextOf s at = nextFrom (numberOf (wordAt s at)) (stopOf s at)
+abbrev pub fail : {A : Type 0} → Reader A
+fail ws = none
 
-abbrev pub ifNext : {R : Type 0} → Next → (ℕ → ℕ → R) → R → R
-ifNext (NextIs v c) go stop = go v (c .at)
-ifNext NextNo go stop = stop
+-- and another goes on with the words behind
+abbrev pub goOn : {A B : Type 0} → Option (A × List (List ℕ)) → (A → Reader B) → Option (B × List (List ℕ))
+goOn none f = none
+goOn (some p) f = f (p .0) (p .1)
+
+-- readers in a row, as `do` has them
+abbrev pub _>>=_ : {A B : Type 0} → Reader A → (A → Reader B) → Reader B
+_>>=_ r f ws = goOn (r ws) f
+
+abbrev pub _>>_ : {B : Type 0} → Reader (Unit {0}) → Reader B → Reader B
+_>>_ r f ws = goOn (r ws) (λ u. f)
+
+unfoldable pub word : Reader (List ℕ)
+word [] = none
+word (w ∷ ws) = some (w, ws)
+
+unfoldable pub number : Reader ℕ
+number = do
+  w ← word
+  ifNumber (numberOf w) give fail
+
+-- no word is left
+unfoldable pub end : Reader (Unit {0})
+end ws = cond (noWord ws) (some (tt, [])) none
+
+-- ---- by a cursor in the line
+abbrev pub wordsAt : List ℕ → Cursor → List (List ℕ)
+wordsAt s c = wordsOf (drop (c .at) s)
+
+-- what `next_number` has read
+abbrev pub nextRead : List ℕ → Next → Option (ℕ × List (List ℕ))
+nextRead s (NextIs v c) = some (v, wordsAt s c)
+nextRead s NextNo = none
 
 -- the cursor stands in a line of n bytes
 abbrev pub NextIn : Next → ℕ → Type 0

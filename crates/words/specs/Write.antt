@@ -19,18 +19,22 @@ abbrev pub row : List (List ℕ) → List ℕ
 row [] = []
 row (t ∷ ts) = t ++ row ts
 
--- the fewest digits, at least k, that hold n; at most k + f are tried
-unfoldable pub fewestFrom : ℕ → ℕ → ℕ → ℕ
-fewestFrom zero k n = k
-fewestFrom (suc f) k n = cond (ltb n (16 ^ k)) k (fewestFrom f (suc k) n)
+-- the fewest digits in base b, at least k, that hold n; at most k + f are tried
+unfoldable pub fewestFrom : ℕ → ℕ → ℕ → ℕ → ℕ
+fewestFrom b zero k n = k
+fewestFrom b (suc f) k n = cond (ltb n (b ^ k)) k (fewestFrom b f (suc k) n)
 
 -- a number below 2^64 in as few digits as hold it, and no fewer than w, of 1 to 16
 unfoldable pub widthText : ℕ → ℕ → List ℕ
-widthText w n = digits 16 (fewestFrom (16 - w) w n) n
+widthText w n = digits 16 (fewestFrom 16 (16 - w) w n) n
 
 -- A NUMBER has no leading zeros
 abbrev pub hexText : ℕ → List ℕ
 hexText n = widthText 1 n
+
+-- and so in decimal
+unfoldable pub decimalText : ℕ → List ℕ
+decimalText n = digits 10 (fewestFrom 10 19 1 n) n
 
 -- A DOUBLE is `nan`, or the 16 digits of its pattern
 unfoldable pub doubleText : Float → List ℕ

@@ -3,7 +3,8 @@ ghost use mathlib.Core.Path.{_≡_};
 ghost use Prim.Native.Nat.{_≤_};
 ghost use lib.ListN.{length};
 ghost use lib.Ieee.{binary64, ofBits};
-ghost use Rattle.words.specs.List.{fillFrom, listOf, ListedIn};
+ghost use Rattle.words.specs.Read.{wordsAt};
+ghost use Rattle.words.specs.List.{items, list, listRead, ListedIn};
 use crate::read::Cursor;
 use crate::read::Next;
 use crate::read::double_of;
@@ -15,9 +16,10 @@ pub enum Listed {
     Bad,
 }
 
+// n numbers.
 fn fill_numbers(s: &[u8], c: Cursor, n: u64, into: &mut [u64]) -> Listed
     requires { ⌜ (c .at ≤ length (now s)) × (n ≤ length (now into)) ⌝ }
-    ensures { λ r. ⌜ ((r, now (into .exit)) ≡ fillFrom (λ v. v) (now (s .entry)) n 0 (c .at) (now (into .entry))) × ListedIn r n (length (now (s .entry))) ⌝ }
+    ensures { λ r. ⌜ (listRead (now (s .entry)) r (now (into .exit)) ≡ items (λ v. v) n (wordsAt (now (s .entry)) c)) × ListedIn r (now (into .exit)) n (length (now (s .entry))) ⌝ }
 {
     let count = n as usize;
     let mut at = c.at;
@@ -37,14 +39,13 @@ fn fill_numbers(s: &[u8], c: Cursor, n: u64, into: &mut [u64]) -> Listed
     Listed::Got(k, Cursor { at })
 }
 
-// A list of at most limit numbers.
-pub fn numbers(s: &[u8], c: Cursor, limit: usize, into: &mut [u64]) -> Listed
-    requires { ⌜ (c .at ≤ length (now s)) × (limit ≤ length (now into)) ⌝ }
-    ensures { λ r. ⌜ ((r, now (into .exit)) ≡ listOf (λ v. v) (now (s .entry)) limit (c .at) (now (into .entry))) × ListedIn r limit (length (now (s .entry))) ⌝ }
+pub fn numbers(s: &[u8], c: Cursor, into: &mut [u64; 4096]) -> Listed
+    requires { ⌜ c .at ≤ length (now s) ⌝ }
+    ensures { λ r. ⌜ (listRead (now (s .entry)) r (now (into .exit)) ≡ list (λ v. v) (wordsAt (now (s .entry)) c)) × ListedIn r (now (into .exit)) 4096 (length (now (s .entry))) ⌝ }
 {
     match next_number(s, c) {
         Next::Is(n, d) => {
-            if (limit as u64) < n {
+            if 4096 < n {
                 return Listed::Bad;
             }
             fill_numbers(s, d, n, into)
@@ -53,9 +54,10 @@ pub fn numbers(s: &[u8], c: Cursor, limit: usize, into: &mut [u64]) -> Listed
     }
 }
 
-fn fill_doubles(s: &[u8], c: Cursor, n: u64, into: &mut [f64]) -> Listed
+// n doubles.
+pub fn fill_doubles(s: &[u8], c: Cursor, n: u64, into: &mut [f64]) -> Listed
     requires { ⌜ (c .at ≤ length (now s)) × (n ≤ length (now into)) ⌝ }
-    ensures { λ r. ⌜ ((r, now (into .exit)) ≡ fillFrom (ofBits binary64) (now (s .entry)) n 0 (c .at) (now (into .entry))) × ListedIn r n (length (now (s .entry))) ⌝ }
+    ensures { λ r. ⌜ (listRead (now (s .entry)) r (now (into .exit)) ≡ items (ofBits binary64) n (wordsAt (now (s .entry)) c)) × ListedIn r (now (into .exit)) n (length (now (s .entry))) ⌝ }
 {
     let count = n as usize;
     let mut at = c.at;
@@ -75,14 +77,13 @@ fn fill_doubles(s: &[u8], c: Cursor, n: u64, into: &mut [f64]) -> Listed
     Listed::Got(k, Cursor { at })
 }
 
-// A list of at most limit doubles.
-pub fn doubles(s: &[u8], c: Cursor, limit: usize, into: &mut [f64]) -> Listed
-    requires { ⌜ (c .at ≤ length (now s)) × (limit ≤ length (now into)) ⌝ }
-    ensures { λ r. ⌜ ((r, now (into .exit)) ≡ listOf (ofBits binary64) (now (s .entry)) limit (c .at) (now (into .entry))) × ListedIn r limit (length (now (s .entry))) ⌝ }
+pub fn doubles(s: &[u8], c: Cursor, into: &mut [f64; 4096]) -> Listed
+    requires { ⌜ c .at ≤ length (now s) ⌝ }
+    ensures { λ r. ⌜ (listRead (now (s .entry)) r (now (into .exit)) ≡ list (ofBits binary64) (wordsAt (now (s .entry)) c)) × ListedIn r (now (into .exit)) 4096 (length (now (s .entry))) ⌝ }
 {
     match next_number(s, c) {
         Next::Is(n, d) => {
-            if (limit as u64) < n {
+            if 4096 < n {
                 return Listed::Bad;
             }
             fill_doubles(s, d, n, into)

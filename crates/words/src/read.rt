@@ -1,10 +1,9 @@
 // The words of a line, one after another, and words as numbers.
 ghost use mathlib.Core.Path.{_≡_};
-ghost use Prim.Native.Nat.{_+_, _≤_};
-ghost use lib.ListN.{length, drop};
-ghost use lib.Dec.{eqb};
+ghost use Prim.Native.Nat.{_+_, _-_, _≤_};
+ghost use lib.ListN.{length, take, drop};
 ghost use lib.Ieee.{binary64, ofBits};
-ghost use Rattle.words.specs.Read.{runOf, isSpace, isLetter, startOf, stopOf, sameOf, digitOf, numberOf, nextOf, NextIn};
+ghost use Rattle.words.specs.Read.{runOf, isSpace, isLetter, wordsOf, firstOf, noWord, sameOf, digitOf, numberOf, number, wordsAt, nextRead, NextIn};
 
 // Where reading stands in a line.
 pub struct Cursor {
@@ -59,7 +58,7 @@ fn past_letters(s: &[u8], at: usize) -> usize
 pub fn next_word(s: &[u8], c: Cursor) -> Word
     requires { ⌜ c .at ≤ length (now s) ⌝ }
     ensures bounds { λ r. ⌜ (c .at ≤ r .start) × (r .start ≤ r .stop) × (r .stop ≤ length (now (s .entry))) ⌝ }
-    ensures place { λ r. ⌜ (r .start ≡ startOf (now (s .entry)) (c .at)) × (r .stop ≡ stopOf (now (s .entry)) (c .at)) ⌝ }
+    ensures first { λ r. ⌜ firstOf (wordsAt (now (s .entry)) c) ≡ (take (r .stop - r .start) (drop (r .start) (now (s .entry))), wordsOf (drop (r .stop) (now (s .entry)))) ⌝ }
 {
     let at = c.at;
     let start = past_spaces(s, at);
@@ -70,7 +69,7 @@ pub fn next_word(s: &[u8], c: Cursor) -> Word
 // Whether nothing but spaces is left.
 pub fn at_end(s: &[u8], c: Cursor) -> bool
     requires { ⌜ c .at ≤ length (now s) ⌝ }
-    ensures { λ r. ⌜ r ≡ eqb (startOf (now (s .entry)) (c .at)) (length (now (s .entry))) ⌝ }
+    ensures { λ r. ⌜ r ≡ noWord (wordsAt (now (s .entry)) c) ⌝ }
 {
     let at = c.at;
     past_spaces(s, at) == s.len()
@@ -156,7 +155,7 @@ pub fn double_of(bits: u64) -> f64
 
 pub fn next_number(s: &[u8], c: Cursor) -> Next
     requires { ⌜ c .at ≤ length (now s) ⌝ }
-    ensures { λ r. ⌜ (r ≡ nextOf (now (s .entry)) (c .at)) × NextIn r (length (now (s .entry))) ⌝ }
+    ensures { λ r. ⌜ (nextRead (now (s .entry)) r ≡ number (wordsAt (now (s .entry)) c)) × NextIn r (length (now (s .entry))) ⌝ }
 {
     let w = next_word(s, c);
     let start = w.start;

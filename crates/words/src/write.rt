@@ -3,7 +3,7 @@ ghost use mathlib.Core.Path.{_≡_};
 ghost use mathlib.Core.List.{_++_};
 ghost use Prim.Native.Nat.{_+_, _*_, _≤_};
 ghost use lib.ListN.{length, take};
-ghost use Rattle.words.specs.Write.{widthText, hexText, doubleText, listText};
+ghost use Rattle.words.specs.Write.{widthText, hexText, decimalText, doubleText, listText};
 
 pub fn put(out: &mut [u8], at: usize, text: &[u8]) -> usize
     requires { ⌜ at + length (now text) ≤ length (now out) ⌝ }
@@ -32,6 +32,15 @@ pub fn put_number(out: &mut [u8], at: usize, n: u64) -> usize
     ensures { λ r. ⌜ (at ≤ r) × (r ≤ at + 16) × (take r (now (out .exit)) ≡ take at (now (out .entry)) ++ hexText n) ⌝ }
 {
     put_hex(out, at, n, 1)
+}
+
+pub fn put_decimal(out: &mut [u8], at: usize, n: u64) -> usize
+    requires { ⌜ at + 20 ≤ length (now out) ⌝ }
+    ensures { λ r. ⌜ (at ≤ r) × (r ≤ at + 20) × (take r (now (out .exit)) ≡ take at (now (out .entry)) ++ decimalText n) ⌝ }
+{
+    let mut text = [0u8; 20];
+    let k = io::decimal(n, &mut text);
+    put(out, at, &text[..k])
 }
 
 pub fn put_double(out: &mut [u8], at: usize, x: f64) -> usize

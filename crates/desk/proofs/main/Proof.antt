@@ -19,6 +19,9 @@ large-buffer-requires-2 c κs = search needs
 out-buffer-requires : tie.Need-out-buffer-requires Inv-loop μ-loop
 out-buffer-requires c κs = search needs
 
+empty-requires : tie.Need-empty-requires Inv-loop μ-loop
+empty-requires c κs = search needs
+
 loop-holds : tie.Need-loop-holds Inv-loop μ-loop
 loop-holds c = search needs
 
@@ -49,6 +52,7 @@ main-spec =
     large-buffer-requires
     large-buffer-requires-2
     out-buffer-requires
+    empty-requires
     loop-holds
     turn-requires
     sub-turns

@@ -30,9 +30,6 @@ loop-again c = search needs
 returns : tie.Need-returns Inv-loop μ-loop
 returns c = search needs
 
-returns-2 : tie.Need-returns-2 Inv-loop μ-loop
-returns-2 c = search needs
-
 pub serve-spec : {M : Type 1} → statement M
 serve-spec =
     tie.close
@@ -44,5 +41,4 @@ serve-spec =
     write-front-requires
     loop-less
     loop-again
-    returns
-    returns-2)
+    returns)

@@ -7,7 +7,9 @@ use Rattle.desk.proofs.serve_front.Statement.{statement}
 use Rattle.desk.proofs.serve_front.Tie as tie
 
 slice-aggregate-serve : tie.Need-slice-aggregate-serve
-slice-aggregate-serve c = let a = c .before .before .args in sym (length-take-le (a .n) (a .block .now) (omega arith))
+slice-aggregate-serve c =
+    let b2 = c .before .before in
+    sym (length-take-le (b2 .args .n) (b2 .args .block .now) (omega arith))
 
 serve-requires : tie.Need-serve-requires
 serve-requires c κs = search needs

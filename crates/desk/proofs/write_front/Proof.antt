@@ -7,7 +7,9 @@ use Rattle.desk.proofs.write_front.Statement.{statement}
 use Rattle.desk.proofs.write_front.Tie as tie
 
 slice-aggregate-write-all : tie.Need-slice-aggregate-write-all
-slice-aggregate-write-all c = let a = c .before .before .args in sym (length-take-le (a .n) (a .s .now) (omega arith))
+slice-aggregate-write-all c =
+    let b2 = c .before .before in
+    sym (length-take-le (b2 .args .n) (b2 .args .s .now) (omega arith))
 
 write-all-requires : tie.Need-write-all-requires
 write-all-requires c κs = search needs

@@ -2,20 +2,18 @@
 use mathlib.Core.Path.{_≡_, refl, sym, _∙_, subst}
 use mathlib.Core.Bool.{Bool, true, false, not}
 use mathlib.Core.List.{List}
-use Prim.Native.Nat.{ℕ, suc, _+_, _-_, _*_, _^_, _≤_, _<_, _%_}
+use Prim.Native.Nat.{ℕ, suc, _+_, _*_, _^_, _≤_, _<_, _%_}
 use native.Mathlib.Nat.{pow-suc, pow-le-pow-right, zero-lt-suc}
 use native.Mathlib.Numerals.{add-one}
 use native.Mathlib.Omega.{arith}
 use borrow.Author.Tests.{eq-eqb, ne-eqb, lt-ltb, le-ltb}
 use lib.Dec.{T}
-use lib.ListN.{length, getD, take, drop, drop-of-length-le}
+use lib.ListN.{length, getD, drop, drop-of-length-le}
 use lib.Seq.{drop-cons}
 use lib.Ieee.{Float, nan, inf, fin, binary64, ofBits, isNan, nanBits, div}
 use lib.Ieee.Bits.{nanBits-is, nanBits-above}
-use Rattle.words.specs.declared.read.Number.{Number}
 use Rattle.words.specs.declared.read.Number.the-variants.{Is, No}
-use Rattle.words.specs.declared.read.Next.the-variants.{Is as NextIs, No as NextNo}
-use Rattle.words.specs.Read.{runOf, startOf, stopOf, wordAt, nextOf, sameOf, digitOf, readFrom, numberOf}
+use Rattle.words.specs.Read.{runOf, sameOf, digitOf, readFrom}
 
 -- ---- runs
 module _ (test : ℕ → Bool) (s : List ℕ) (i : ℕ) where
@@ -90,14 +88,3 @@ module _ (b : ℕ) where
 
   pub no-nan-of : b % 0x8000_0000_0000_0000 ≤ 0x7ff0_0000_0000_0000 → T (not (nanBits binary64 b))
   no-nan-of h = subst (λ (t : Bool). T (not t)) (sym (nanBits-above binary64 b ∙ le-ltb _ _ h)) tt
-
--- ---- the next number
-module _ (s : List ℕ) (at : ℕ) {start stop : ℕ} {r : Number} (e : start ≡ startOf s at) (g : stop ≡ stopOf s at)
-    (n : r ≡ numberOf (take (stop - start) (drop start s))) where
-  pub next-is : (v : ℕ) → r ≡ Is v → NextIs v (record { at = stop }) ≡ nextOf s at
-  unfolding nextOf wordAt
-  next-is v h = rw (← e, ← g, ← n, h)
-
-  pub next-no : r ≡ No → NextNo ≡ nextOf s at
-  unfolding nextOf wordAt
-  next-no h = rw (← e, ← g, ← n, h)

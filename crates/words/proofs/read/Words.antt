@@ -1,8 +1,9 @@
 -- The words of a line, and the places at which `next_word` and `at_end` find them. Assumes nothing.
 use mathlib.Core.Path.{_≡_, refl, sym, ap, _∙_}
 use mathlib.Core.Logic.{_⊎_, inl, inr, ⊎-elim}
-use mathlib.Core.Bool.{Bool, true, false, cond}
+use mathlib.Core.Bool.{Bool, true, false}
 use mathlib.Core.List.{List, [], _∷_}
+use mathlib.Core.Option.{none, some}
 use Prim.Native.Nat.{ℕ, suc, zero-le, suc-le-suc, _+_, _-_, _≤_}
 use native.Mathlib.Omega.{arith}
 use lib.Dec.{eqb}
@@ -11,7 +12,7 @@ use lib.Seq.{drop-drop, drop-nil}
 use borrow.Author.Tests.{eq-eqb, ne-eqb}
 use Rattle.words.specs.declared.read.Number.{Number}
 use Rattle.words.specs.declared.read.Number.the-variants.{Is, No}
-use Rattle.words.specs.Read.{runOf, isSpace, isLetter, ahead, cutOf, wordsOf, firstWord, startOf, stopOf, wordAt, numberOf, ifNumber, firstNumber, nextFrom, nextOf, ifNext}
+use Rattle.words.specs.Read.{runOf, isSpace, isLetter, ahead, cutOf, wordsOf, firstOf, noWord, numberOf, ifNumber, Reader, give, fail, goOn, word, number}
 
 -- ---- over lists
 
@@ -75,12 +76,18 @@ run-le test (b ∷ l) = go (test b) refl (run-le test l)
 
 -- ---- by places
 module _ (s : List ℕ) (at : ℕ) where
-  -- from the next word's start on
+  -- where the next word starts, the line from there on, and where the word stops
+  start : ℕ
+  start = at + runOf isSpace (drop at s)
+
   from : List ℕ
-  from = drop (startOf s at) s
+  from = drop start s
+
+  stop : ℕ
+  stop = start + runOf isLetter from
 
   led-at : led (drop at s) ≡ from
-  unfolding startOf from
+  unfolding start from
   led-at = drop-drop _ at s
 
   from-words : wordsOf (drop at s) ≡ wordsOf from
@@ -90,59 +97,65 @@ module _ (s : List ℕ) (at : ℕ) where
   unfolding LedFront
   from-front = rw led-at at (led-front (drop at s))
 
-  word-is : wordAt s at ≡ take (runOf isLetter from) from
-  unfolding wordAt stopOf from
-  word-is = let e : startOf s at + runOf isLetter from - startOf s at ≡ runOf isLetter from = omega arith in rw e
-
-  word-some : (b : ℕ) (m : List ℕ) → from ≡ b ∷ m → isSpace b ≡ false → wordAt s at ≡ b ∷ take (runOf isLetter m) m
-  word-some b m e q = word-is ∙ rw e (letter-cut b m q)
-
-  rest-is : drop (runOf isLetter from) from ≡ drop (stopOf s at) s
-  unfolding stopOf from
-  rest-is = drop-drop (runOf isLetter from) (startOf s at) s
+  rest-is : drop (runOf isLetter from) from ≡ drop stop s
+  unfolding start stop from
+  rest-is = drop-drop (runOf isLetter from) start s
 
   -- the words from a place on: the word there, ahead of those from where it stops
-  words-at : wordsOf (drop at s) ≡ ahead (wordAt s at) (wordsOf (drop (stopOf s at) s))
-  words-at = from-words ∙ words-cut from ∙ rw (word-is, rest-is)
+  words-at : wordsOf (drop at s) ≡ ahead (take (runOf isLetter from) from) (wordsOf (drop stop s))
+  words-at = from-words ∙ words-cut from ∙ rw rest-is
+
+  letters-some : (b : ℕ) (m : List ℕ) → from ≡ b ∷ m → isSpace b ≡ false → take (runOf isLetter from) from ≡ b ∷ take (runOf isLetter m) m
+  letters-some b m e q = rw e (letter-cut b m q)
 
   -- where the word there has no byte, no word is left
-  none-at : wordAt s at ≡ [] → wordsOf (drop (stopOf s at) s) ≡ []
+  none-at : take (runOf isLetter from) from ≡ [] → wordsOf (drop stop s) ≡ []
   none-at h =
       ⊎-elim
       (λ (e : from ≡ []). rw (← rest-is, e, drop-nil) no-words)
-      (λ p. let k = word-some (p .0) (p .1) (p .2) (p .3) in let z : _≡_ {A = ℕ} 0 1 = cc in absurd (omega arith))
+      (λ p. let k = letters-some (p .0) (p .1) (p .2) (p .3) in let z : _≡_ {A = ℕ} 0 1 = cc in absurd (omega arith))
       from-front
 
-  pub first-at : {R : Type 0} (go : List ℕ → List (List ℕ) → R) (stop : R) → go [] [] ≡ stop
-      → go (wordAt s at) (wordsOf (drop (stopOf s at) s)) ≡ firstWord (wordsOf (drop at s)) go stop
-  first-at go stop e = rw words-at (front (wordAt s at) (wordsOf (drop (stopOf s at) s)) none-at)
+  first-is : firstOf (wordsOf (drop at s)) ≡ (take (runOf isLetter from) from, wordsOf (drop stop s))
+  first-is = rw words-at (front _ _ none-at)
     where
-      front : (w : List ℕ) (ws : List (List ℕ)) → (w ≡ [] → ws ≡ []) → go w ws ≡ firstWord (ahead w ws) go stop
-      front [] ws h = rw (h refl) e
+      front : (w : List ℕ) (ws : List (List ℕ)) → (w ≡ [] → ws ≡ []) → firstOf (ahead w ws) ≡ (w, ws)
+      front [] ws h = rw (h refl)
       front (b ∷ w) ws h = refl
 
-  pub number-at : {R : Type 0} (go : ℕ → List (List ℕ) → R) (stop : R)
-      → ifNext (nextOf s at) (λ v b. go v (wordsOf (drop b s))) stop ≡ firstNumber (wordsOf (drop at s)) go stop
-  unfolding firstNumber nextOf numberOf
-  number-at go stop = told (numberOf (wordAt s at)) ∙ first-at (λ w rest. ifNumber (numberOf w) (λ v. go v rest) stop) stop refl
-    where
-      told : (n : Number) → ifNext (nextFrom n (stopOf s at)) (λ v b. go v (wordsOf (drop b s))) stop ≡ ifNumber n (λ v. go v (wordsOf (drop (stopOf s at) s))) stop
-      told (Is v) = refl
-      told No = refl
+  pub first-at : {i k : ℕ} → i ≡ at + runOf isSpace (drop at s) → k ≡ i + runOf isLetter (drop i s)
+      → firstOf (wordsOf (drop at s)) ≡ (take (k - i) (drop i s), wordsOf (drop k s))
+  unfolding start stop from
+  first-at e g =
+      let d : start + runOf isLetter from - start ≡ runOf isLetter from = omega arith in
+      rw (g, e, d) first-is
 
-  start-le : at ≤ length s → startOf s at ≤ length s
-  unfolding startOf
-  start-le h = omega (arith, run-le isSpace (drop at s), length-drop at s)
-
-  pub end-at : {R : Type 0} (go stop : R) → at ≤ length s → cond (eqb (startOf s at) (length s)) stop go ≡ firstWord (wordsOf (drop at s)) (λ w rest. go) stop
-  unfolding from
-  end-at go stop h =
-      let b = start-le h in
+  pub end-at : at ≤ length s → eqb (at + runOf isSpace (drop at s)) (length s) ≡ noWord (wordsOf (drop at s))
+  unfolding start from
+  end-at h =
+      let b : start ≤ length s = omega (arith, run-le isSpace (drop at s), length-drop at s) in
       ⊎-elim
       (λ (e : from ≡ []).
-      let z : startOf s at ≡ length s = omega (arith, simp length-drop at (ap length e)) in
+      let z : start ≡ length s = omega (arith, simp length-drop at (ap length e)) in
       rw (eq-eqb _ _ z, from-words, e, no-words))
       (λ p.
-      let k = word-some (p .0) (p .1) (p .2) (p .3) in
-      rw (ne-eqb (startOf s at) (length s) (λ z. omega (arith, simp length-drop at (ap length (p .2)))), words-at, k))
+      let k = letters-some (p .0) (p .1) (p .2) (p .3) in
+      rw (ne-eqb start (length s) (λ z. omega (arith, simp length-drop at (ap length (p .2)))), words-at, k))
       from-front
+
+-- ---- readers, by a first word of no byte where there is none
+pub word-first : {B : Type 0} (f : List ℕ → Reader B) (ws : List (List ℕ)) → f [] [] ≡ none → goOn (word ws) f ≡ f (firstOf ws .0) (firstOf ws .1)
+unfolding word
+word-first f [] e = sym e
+word-first f (w ∷ ws) e = refl
+
+module _ (ws : List (List ℕ)) {w : List ℕ} {rest : List (List ℕ)} {r : Number} (e : firstOf ws ≡ (w, rest)) (n : r ≡ numberOf w) where
+  by-word : number ws ≡ ifNumber r give fail rest
+  unfolding number numberOf
+  by-word = word-first (λ w. ifNumber (numberOf w) give fail) ws refl ∙ rw (e, n)
+
+  pub number-is : (v : ℕ) → r ≡ Is v → some (v, rest) ≡ number ws
+  number-is v h = sym (by-word ∙ rw h)
+
+  pub number-no : r ≡ No → none ≡ number ws
+  number-no h = sym (by-word ∙ rw h)

@@ -3,7 +3,7 @@ use mathlib.Core.Path.{_≡_, refl, sym, ap, _∙_, subst}
 use mathlib.Core.Logic.{_⊎_, inl, inr, ⊎-elim}
 use mathlib.Core.Bool.{Bool, true, false}
 use mathlib.Core.List.{List, [], _∷_, _++_, append-assoc, append-nil}
-use Prim.Native.Nat.{ℕ, zero, suc, _+_, _-_, _*_, _/_, _%_, _^_, _≤_, _<_, min, max}
+use Prim.Native.Nat.{ℕ, zero, suc, _+_, _-_, _*_, _/_, _%_, _^_, _≤_, _<_}
 use native.Mathlib.Nat.{pow-suc, pow-le-pow-right, zero-lt-suc, le-trans, mod-one, mod-lt, mod-eq-of-lt, eq-or-lt-of-le, one-le-pow}
 use native.Mathlib.Numerals.{add-one}
 use native.Mathlib.Omega.{arith}
@@ -73,7 +73,7 @@ reads k n a b h =
 -- ---- the fewest digits
 
 -- it is at least j, at most j + f, and holds n where j + f digits do
-fewest-holds : (f j n : ℕ) → n < 16 ^ (j + f) → (j ≤ fewestFrom f j n) × (fewestFrom f j n ≤ j + f) × (n < 16 ^ fewestFrom f j n)
+fewest-holds : (f j n : ℕ) → n < 16 ^ (j + f) → (j ≤ fewestFrom 16 f j n) × (fewestFrom 16 f j n ≤ j + f) × (n < 16 ^ fewestFrom 16 f j n)
 unfolding fewestFrom
 fewest-holds zero j n h = (omega arith, omega arith, subst (λ (x : ℕ). n < 16 ^ x) (omega arith) h)
 fewest-holds (suc f) j n h =
@@ -87,40 +87,37 @@ fewest-holds (suc f) j n h =
 -- THE ROUND TRIP: what `put_number` writes, `number_of` reads
 pub round-trip : (n : ℕ) → n < 2 ^ 64 → numberOf (hexText n) ≡ Is n
 unfolding widthText
-round-trip n h = let r = fewest-holds 15 1 n h in reads (fewestFrom 15 1 n) n (r .0) (r .1) (r .2)
+round-trip n h = let r = fewest-holds 15 1 n h in reads (fewestFrom 16 15 1 n) n (r .0) (r .1) (r .2)
 
-fewest-is : (f j n k : ℕ) → j ≤ k → k ≤ j + f → n < 16 ^ k → (j < k → 16 ^ (k - 1) ≤ n) → fewestFrom f j n ≡ k
-unfolding fewestFrom
-fewest-is zero j n k a b h g = omega arith
-fewest-is (suc f) j n k a b h g =
-    ⊎-elim
-    (λ (e : j ≡ k). rw (lt-ltb n (16 ^ j) (subst (λ (x : ℕ). n < 16 ^ x) (sym e) h)) e)
-    (λ (q : j < k).
-    let m : 16 ^ j ≤ 16 ^ (k - 1) = pow-le-pow-right (zero-lt-suc 15) (omega arith) in
-    rw (le-ltb n (16 ^ j) (le-trans m (g q))) (fewest-is f (suc j) n k q (omega arith) h (λ (z : suc j < k). g q)))
-    (eq-or-lt-of-le a)
-
--- what io::hex promises of k digits is what `widthText` says
-module _ (n k w : ℕ) (h : n < 2 ^ 64) (a : 1 ≤ w) (b : w ≤ 16) (f : Fewest 16 (min (max w 1) 16) n k) where
-  fewest : Fewest 16 w n k
-  fewest = let e : min (max w 1) 16 ≡ w = omega arith in rw e at f
-
-  pub at-most : k ≤ 16
-  at-most =
+-- what io promises of k digits is what the definition says
+module _ (b : ℕ) (p : 0 < b) where
+  fewest-is : (f j n k : ℕ) → j ≤ k → k ≤ j + f → n < b ^ k → (j < k → b ^ (k - 1) ≤ n) → fewestFrom b f j n ≡ k
+  unfolding fewestFrom
+  fewest-is zero j n k a c h g = omega arith
+  fewest-is (suc f) j n k a c h g =
       ⊎-elim
-      (λ (q : 16 < k).
-      let i : 16 ≤ k - 1 = omega arith in
-      let m : 16 ^ 16 ≤ 16 ^ (k - 1) = pow-le-pow-right (zero-lt-suc 15) {i = 16} {j = k - 1} i in
-      let g = fewest .2 (omega arith) in
-      omega arith)
-      (λ (q : k ≤ 16). q)
-      (told 16 k)
+      (λ (e : j ≡ k). rw (lt-ltb n (b ^ j) (subst (λ (x : ℕ). n < b ^ x) (sym e) h)) e)
+      (λ (q : j < k).
+      let m : b ^ j ≤ b ^ (k - 1) = pow-le-pow-right p (omega arith) in
+      rw (le-ltb n (b ^ j) (le-trans m (g q))) (fewest-is f (suc j) n k q (omega arith) h (λ (z : suc j < k). g q)))
+      (eq-or-lt-of-le a)
 
-  pub width-is : digits 16 k n ≡ widthText w n
-  unfolding widthText
-  width-is =
-      let m = at-most in
-      ap (λ (x : ℕ). digits 16 x n) (sym (fewest-is (16 - w) w n k (fewest .0) (omega arith) (fewest .1) (fewest .2)))
+  module _ (top w n k : ℕ) (a : w ≤ top) (h : n < b ^ top) (f : Fewest b w n k) where
+    pub at-most : k ≤ top
+    at-most =
+        ⊎-elim
+        (λ (q : top < k).
+        let i : top ≤ k - 1 = omega arith in
+        let m : b ^ top ≤ b ^ (k - 1) = pow-le-pow-right p {i = top} {j = k - 1} i in
+        let g = f .2 (omega arith) in
+        omega arith)
+        (λ (q : k ≤ top). q)
+        (told top k)
+
+    pub fewest-digits : digits b k n ≡ digits b (fewestFrom b (top - w) w n) n
+    fewest-digits =
+        let m = at-most in
+        ap (λ (x : ℕ). digits b x n) (sym (fewest-is (top - w) w n k (f .0) (omega arith) (f .1) (f .2)))
 
 -- ---- doubles
 pub no-nan : (x : Float) → ne x x ≡ false → isNan x ≡ false

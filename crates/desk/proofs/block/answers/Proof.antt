@@ -28,18 +28,29 @@ loop-less c = search needs
 
 loop-again : tie.Need-loop-again Inv-loop μ-loop
 loop-again c =
-    let o = c .before .before .before .before .before .before .before in
-    (search needs, search needs, search needs, search needs, moved-on (o .before .before .before .before .before .args .block .now) (o .before .step .result) (o .loop .r) (c .step2 .result) (o .loop .inv .4) (c .step2 .ensures .1))
+    let b7 = c .before .before .before .before .before .before .before in
+    let b8 = b7 .before in
+    let b12 = b8 .before .before .before .before in (
+      search needs,
+      search needs,
+      search needs,
+      search needs,
+      moved-on (b12 .args .block .now) (b8 .step .result) (b7 .loop .r) (c .step2 .result) (b7 .loop .inv .4) (c .step2 .ensures .1),
+    )
 
 returns : tie.Need-returns Inv-loop μ-loop
 returns c =
-    let o = c .before .before .before .before in
-    (search needs, moved-on (o .before .before .before .before .before .args .block .now) (o .before .before .before .before .before .args .s) (o .before .step .result) (o .loop .r) (o .before .step .ensures .1) (o .loop .inv .4))
+    let b4 = c .before .before .before .before in
+    let b5 = b4 .before in
+    let b9 = b5 .before .before .before .before in
+    (search needs, moved-on (b9 .args .block .now) (b9 .args .s) (b5 .step .result) (b4 .loop .r) (b5 .step .ensures .1) (b4 .loop .inv .4))
 
 returns-2 : tie.Need-returns-2 Inv-loop μ-loop
 returns-2 c =
-    let o = c .before .before in
-    (search needs, moved-on (o .before .before .before .before .before .args .block .now) (o .before .before .before .before .before .args .s) (o .before .step .result) (o .loop .r) (o .before .step .ensures .1) (o .loop .inv .4))
+    let b2 = c .before .before in
+    let b3 = b2 .before in
+    let b7 = b3 .before .before .before .before in
+    (search needs, moved-on (b7 .args .block .now) (b7 .args .s) (b3 .step .result) (b2 .loop .r) (b3 .step .ensures .1) (b2 .loop .inv .4))
 
 pub answers-spec : {M : Type 1} → statement M
 answers-spec =

@@ -1,21 +1,22 @@
--- `answer::answer` meets its contract. Each way out is its case of `answerText`.
-use mathlib.Core.Path.{sym}
-use mathlib.Core.List.{append-nil}
+-- `answer::answer` meets its contract. Each way out is its case of `answerOf`.
 use native.Mathlib.Omega.{arith}
-use lib.ListN.{take}
 use borrow.Author.Needs.{needs}
 use Rattle.requests.proofs.answer.Laws.{answer-none, answer-comment, answer-request}
 use Rattle.requests.proofs.answer.answer.Statement.{statement}
 use Rattle.requests.proofs.answer.answer.Tie as tie
 
 returns : tie.Need-returns
-returns c = let a = c .before .before .before .args in (search needs, search needs, rw (answer-none (a .line .now) (c .if1 .taken)) (sym (append-nil (take (a .at) (a .out .now)))))
+returns c =
+    let b3 = c .before .before .before in
+    (search needs, search needs, answer-none (b3 .args .m) _ (b3 .args .line .now) (c .if1 .taken))
 
 shared-slice-read-if2 : tie.Need-shared-slice-read-if2
 shared-slice-read-if2 c = search needs
 
 returns-2 : tie.Need-returns-2
-returns-2 c = let a = c .before .before .before .before .before .args in (search needs, search needs, rw (answer-comment (a .line .now) (omega arith) (c .if2 .taken)) (sym (append-nil (take (a .at) (a .out .now)))))
+returns-2 c =
+    let b5 = c .before .before .before .before .before in
+    (search needs, search needs, answer-comment (b5 .args .m) _ (b5 .args .line .now) (omega arith) (c .if2 .taken))
 
 request-requires : tie.Need-request-requires
 request-requires c κs = search needs
@@ -25,8 +26,10 @@ same-length c = search needs
 
 returns-3 : tie.Need-returns-3
 returns-3 c =
-    let a = c .before .before .before .before .before .before .before .before .before .args in
-    (search needs, search needs, rw (answer-request (a .line .now) (omega arith) (c .before .before .before .before .if2 .left)) (c .before .before .request .ensures .2))
+    let b2 = c .before .before in
+    let b4 = b2 .before .before in
+    let b9 = b4 .before .before .before .before .before in
+    (search needs, search needs, rw (answer-request (b9 .args .m) (b9 .args .line .now) (omega arith) (b4 .if2 .left)) (b2 .request .ensures .2))
 
 pub answer-spec : {M : Type 1} → statement M
 answer-spec =

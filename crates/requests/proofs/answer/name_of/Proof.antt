@@ -23,11 +23,57 @@ same-requires-2 c κs = search needs
 
 returns-2 : tie.Need-returns-2
 unfolding nameOf
-returns-2 c = let o = c .before .before .before in rw (sym (o .before .same .ensures) ∙ o .if1 .left, sym (c .before .same2 .ensures) ∙ c .if2 .taken)
+returns-2 c =
+    let b1 = c .before in
+    let b3 = b1 .before .before in
+    let b4 = b3 .before in
+    rw (sym (b4 .same .ensures) ∙ b3 .if1 .left, sym (b1 .same2 .ensures) ∙ c .if2 .taken)
+
+slice-aggregate-same-3 : tie.Need-slice-aggregate-same-3
+slice-aggregate-same-3 c = search needs
+
+same-requires-3 : tie.Need-same-requires-3
+same-requires-3 c κs = search needs
 
 returns-3 : tie.Need-returns-3
 unfolding nameOf
-returns-3 c = let o = c .before .before .before in rw (sym (o .before .same .ensures) ∙ o .if1 .left, sym (c .before .same2 .ensures) ∙ c .if2 .left)
+returns-3 c =
+    let b1 = c .before in
+    let b3 = b1 .before .before in
+    let b4 = b3 .before in
+    let b6 = b4 .before .before in
+    let b7 = b6 .before in
+    rw (sym (b7 .same .ensures) ∙ b6 .if1 .left, sym (b4 .same2 .ensures) ∙ b3 .if2 .left, sym (b1 .same3 .ensures) ∙ c .if3 .taken)
+
+slice-aggregate-same-4 : tie.Need-slice-aggregate-same-4
+slice-aggregate-same-4 c = search needs
+
+same-requires-4 : tie.Need-same-requires-4
+same-requires-4 c κs = search needs
+
+returns-4 : tie.Need-returns-4
+unfolding nameOf
+returns-4 c =
+    let b1 = c .before in
+    let b3 = b1 .before .before in
+    let b4 = b3 .before in
+    let b6 = b4 .before .before in
+    let b7 = b6 .before in
+    let b9 = b7 .before .before in
+    let b10 = b9 .before in
+    rw (sym (b10 .same .ensures) ∙ b9 .if1 .left, sym (b7 .same2 .ensures) ∙ b6 .if2 .left, sym (b4 .same3 .ensures) ∙ b3 .if3 .left, sym (b1 .same4 .ensures) ∙ c .if4 .taken)
+
+returns-5 : tie.Need-returns-5
+unfolding nameOf
+returns-5 c =
+    let b1 = c .before in
+    let b3 = b1 .before .before in
+    let b4 = b3 .before in
+    let b6 = b4 .before .before in
+    let b7 = b6 .before in
+    let b9 = b7 .before .before in
+    let b10 = b9 .before in
+    rw (sym (b10 .same .ensures) ∙ b9 .if1 .left, sym (b7 .same2 .ensures) ∙ b6 .if2 .left, sym (b4 .same3 .ensures) ∙ b3 .if3 .left, sym (b1 .same4 .ensures) ∙ c .if4 .left)
 
 pub name-of-spec : {M : Type 1} → statement M
 name-of-spec =
@@ -39,4 +85,10 @@ name-of-spec =
     slice-aggregate-same-2
     same-requires-2
     returns-2
-    returns-3)
+    slice-aggregate-same-3
+    same-requires-3
+    returns-3
+    slice-aggregate-same-4
+    same-requires-4
+    returns-4
+    returns-5)

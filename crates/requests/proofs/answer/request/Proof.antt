@@ -1,20 +1,12 @@
--- `answer::request` meets its contract. Each way out is its case of `namedText`, at the line's first word.
-use mathlib.Core.Path.{_≡_, sym, _∙_}
-use lib.ListN.{drop}
+-- `answer::request` meets its contract. Each way out is its case of `namedRequest`, at the line's first word.
+use mathlib.Core.Path.{sym, _∙_}
+use mathlib.Core.Option.{none}
+use lib.ListN.{take}
 use borrow.Author.Needs.{needs}
-use Rattle.words.specs.Read.{wordsOf}
-use Rattle.requests.specs.declared.answer.Name.{Name}
-use Rattle.requests.specs.declared.answer.Name.the-variants.{Root, HalfTurn, Unknown}
-use Rattle.requests.specs.Answer.{namedText, requestText}
-use Rattle.requests.proofs.answer.Laws.{request-is}
+use Rattle.requests.specs.Routines.{rootRequest, halfTurnRequest}
+use Rattle.requests.proofs.answer.Laws.{request-is, kept}
 use Rattle.requests.proofs.answer.request.Statement.{statement}
 use Rattle.requests.proofs.answer.request.Tie as tie
-
-named : (m : tie.After-name-of) (n : Name) → m .name-of .result ≡ n
-    → namedText n (wordsOf (drop (m .before .before .next-word .result .stop) (m .before .before .before .before .before .args .s .now))) ≡ requestText (m .before .before .before .before .before .args .s .now)
-named m n k =
-    let w = m .before .before in
-    request-is (w .before .before .before .args .s .now) (w .next-word .ensures .1 .0) (w .next-word .ensures .1 .1) (sym k ∙ m .name-of .ensures)
 
 next-word-requires : tie.Need-next-word-requires
 next-word-requires c κs = search needs
@@ -34,17 +26,29 @@ name-of-requires c κs = search needs
 enum-told : tie.Need-enum-told
 enum-told c = search needs
 
-root-requires : tie.Need-root-requires
-root-requires c κs = search needs
+model-requires : tie.Need-model-requires
+model-requires c κs = search needs
 
 enum-told-2 : tie.Need-enum-told-2
 enum-told-2 c = search needs
 
-half-turn-requires : tie.Need-half-turn-requires
-half-turn-requires c κs = search needs
+lend-requires : tie.Need-lend-requires
+lend-requires c κs = search needs
 
 enum-told-3 : tie.Need-enum-told-3
 enum-told-3 c = search needs
+
+root-requires : tie.Need-root-requires
+root-requires c κs = search needs
+
+enum-told-4 : tie.Need-enum-told-4
+enum-told-4 c = search needs
+
+half-turn-requires : tie.Need-half-turn-requires
+half-turn-requires c κs = search needs
+
+enum-told-5 : tie.Need-enum-told-5
+enum-told-5 c = search needs
 
 error-requires : tie.Need-error-requires
 error-requires c κs = search needs
@@ -53,19 +57,76 @@ same-length : tie.Need-same-length
 same-length c = search needs
 
 returns : tie.Need-returns
-returns c = (search needs, search needs, rw (← named (c .before .before .before .before .before .before) Root (c .before .before .before .before .enum-told .given .1)) (c .before .before .root .ensures .2))
+returns c =
+    let b2 = c .before .before in
+    let b4 = b2 .before .before in
+    let b6 = b4 .before .before in
+    let b8 = b6 .before .before in
+    let b11 = b8 .before .before .before in (
+      b2 .model .ensures .0,
+      b2 .model .ensures .1,
+      rw (← request-is (b11 .args .m) _ (b8 .next-word .ensures .1) (sym (b4 .enum-told .given .1) ∙ b6 .name-of .ensures)) (b2 .model .ensures .2),
+    )
 
 same-length-2 : tie.Need-same-length-2
 same-length-2 c = search needs
 
 returns-2 : tie.Need-returns-2
-returns-2 c = (search needs, search needs, rw (← named (c .before .before .before .before .before .before) HalfTurn (c .before .before .before .before .enum-told2 .given .1)) (c .before .before .half-turn .ensures .2))
+returns-2 c =
+    let b2 = c .before .before in
+    let b4 = b2 .before .before in
+    let b6 = b4 .before .before in
+    let b8 = b6 .before .before in
+    let b11 = b8 .before .before .before in (
+      b2 .lend .ensures .0,
+      b2 .lend .ensures .1,
+      rw (← request-is (b11 .args .m) _ (b8 .next-word .ensures .1) (sym (b4 .enum-told2 .given .1) ∙ b6 .name-of .ensures)) (b2 .lend .ensures .2),
+    )
 
 same-length-3 : tie.Need-same-length-3
 same-length-3 c = search needs
 
 returns-3 : tie.Need-returns-3
-returns-3 c = (search needs, search needs, rw (← named (c .before .before .before .before .before .before) Unknown (c .before .before .before .before .enum-told3 .given .1)) (c .before .before .error .ensures .2))
+returns-3 c =
+    let b2 = c .before .before in
+    let b4 = b2 .before .before in
+    let b6 = b4 .before .before in
+    let b8 = b6 .before .before in
+    let b11 = b8 .before .before .before in (
+      b2 .root .ensures .0,
+      b2 .root .ensures .1,
+      rw (← request-is (b11 .args .m) _ (b8 .next-word .ensures .1) (sym (b4 .enum-told3 .given .1) ∙ b6 .name-of .ensures)) (kept (b11 .args .m) (take (b11 .args .at) (b11 .args .out .now)) (rootRequest _) (b2 .root .ensures .2)),
+    )
+
+same-length-4 : tie.Need-same-length-4
+same-length-4 c = search needs
+
+returns-4 : tie.Need-returns-4
+returns-4 c =
+    let b2 = c .before .before in
+    let b4 = b2 .before .before in
+    let b6 = b4 .before .before in
+    let b8 = b6 .before .before in
+    let b11 = b8 .before .before .before in (
+      b2 .half-turn .ensures .0,
+      b2 .half-turn .ensures .1,
+      rw (← request-is (b11 .args .m) _ (b8 .next-word .ensures .1) (sym (b4 .enum-told4 .given .1) ∙ b6 .name-of .ensures)) (kept (b11 .args .m) (take (b11 .args .at) (b11 .args .out .now)) (halfTurnRequest _) (b2 .half-turn .ensures .2)),
+    )
+
+same-length-5 : tie.Need-same-length-5
+same-length-5 c = search needs
+
+returns-5 : tie.Need-returns-5
+returns-5 c =
+    let b2 = c .before .before in
+    let b4 = b2 .before .before in
+    let b6 = b4 .before .before in
+    let b8 = b6 .before .before in
+    let b11 = b8 .before .before .before in (
+      b2 .error .ensures .0,
+      b2 .error .ensures .1,
+      rw (← request-is (b11 .args .m) _ (b8 .next-word .ensures .1) (sym (b4 .enum-told5 .given .1) ∙ b6 .name-of .ensures)) (kept (b11 .args .m) (take (b11 .args .at) (b11 .args .out .now)) (none) (b2 .error .ensures .2)),
+    )
 
 pub request-spec : {M : Type 1} → statement M
 request-spec =
@@ -77,14 +138,22 @@ request-spec =
     part-name-of-end
     name-of-requires
     enum-told
-    root-requires
+    model-requires
     enum-told-2
-    half-turn-requires
+    lend-requires
     enum-told-3
+    root-requires
+    enum-told-4
+    half-turn-requires
+    enum-told-5
     error-requires
     same-length
     returns
     same-length-2
     returns-2
     same-length-3
-    returns-3)
+    returns-3
+    same-length-4
+    returns-4
+    same-length-5
+    returns-5)

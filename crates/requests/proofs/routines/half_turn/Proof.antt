@@ -1,6 +1,6 @@
--- `routines::half_turn` meets its contract. Each way out is its case of `halfTurnText`.
+-- `routines::half_turn` meets its contract. Each way out is its case of `halfTurnRequest`.
 use borrow.Author.Needs.{needs}
-use Rattle.requests.specs.Routines.{halfTurnText}
+use Rattle.requests.specs.Routines.{halfTurnRequest}
 use Rattle.requests.proofs.routines.half_turn.Statement.{statement}
 use Rattle.requests.proofs.routines.half_turn.Tie as tie
 
@@ -26,18 +26,24 @@ same-length : tie.Need-same-length
 same-length c = search needs
 
 returns : tie.Need-returns
-unfolding halfTurnText
+unfolding halfTurnRequest
 returns c =
-    let p = c .before .before in
-    let x = p .before .before .before .before in
-    (search needs, search needs, rw (← x .before .before .only-double .ensures, x .q .given .1, ← p .before .half-turn .ensures) (p .put-half-turn .ensures .2))
+    let b2 = c .before .before in
+    let b3 = b2 .before in
+    let b6 = b3 .before .before .before in
+    let b8 = b6 .before .before in
+    (search needs, search needs, rw (← (rw (b6 .q .given .1) at (b8 .only-double .ensures)), ← b3 .half-turn .ensures) (b2 .put-half-turn .ensures .2))
 
 same-length-2 : tie.Need-same-length-2
 same-length-2 c = search needs
 
 returns-2 : tie.Need-returns-2
-unfolding halfTurnText
-returns-2 c = (search needs, search needs, rw (← c .before .before .before .before .before .before .only-double .ensures, c .before .before .before .before .enum-told .given .1) (c .before .before .error .ensures .2))
+unfolding halfTurnRequest
+returns-2 c =
+    let b2 = c .before .before in
+    let b4 = b2 .before .before in
+    let b6 = b4 .before .before in
+    (search needs, search needs, rw (← (rw (b4 .enum-told .given .1) at (b6 .only-double .ensures))) (b2 .error .ensures .2))
 
 pub half-turn-spec : {M : Type 1} → statement M
 half-turn-spec =

@@ -1,10 +1,8 @@
--- `routines::only_double` meets its contract. Each way out is its case of `onlyOf`.
-use mathlib.Core.Path.{sym, _∙_, subst}
-use lib.ListN.{length}
+-- `routines::only_double` meets its contract. Each way out is its case of `onlyDouble`.
+use mathlib.Core.Path.{sym, _∙_}
 use borrow.Author.Needs.{needs}
-use Rattle.words.specs.declared.read.Next.{Next}
-use Rattle.words.specs.Read.{NextIn}
-use Rattle.requests.proofs.routines.Laws.{only-none, only-is, only-more}
+use Rattle.words.specs.Read.{end}
+use Rattle.requests.specs.Routines.{onlyDouble}
 use Rattle.requests.proofs.routines.only_double.Statement.{statement}
 use Rattle.requests.proofs.routines.only_double.Tie as tie
 
@@ -15,33 +13,37 @@ enum-known-v : tie.Need-enum-known-v
 enum-known-v c = search needs
 
 at-end-requires : tie.Need-at-end-requires
-at-end-requires c κs = subst (λ (r : Next). NextIn r (length (c .before .before .before .before .before .args .s .now))) (c .before .v .given .1) (c .before .before .before .next-number .ensures .1)
+at-end-requires c κs =
+    let b1 = c .before in
+    let b3 = b1 .before .before in
+    rw (b1 .v .given .1) at (b3 .next-number .ensures .1)
 
 double-of-requires : tie.Need-double-of-requires
 double-of-requires c κs = search needs
 
 returns : tie.Need-returns
+unfolding onlyDouble end
 returns c =
-    let v = c .before .before .before .before in
-    let a = v .before .before .before .before .args in
-    let e = subst (λ (r : Next). NextIn r (length (a .s .now))) (v .v .given .1) (v .before .before .next-number .ensures .1) in
-    rw (c .double-of .ensures)
-    (only-is (a .s .now) (a .c .at) _ _ (sym (v .v .given .1) ∙ v .before .before .next-number .ensures .0) e (sym (c .before .before .at-end .ensures) ∙ c .before .if1 .taken))
+    let b1 = c .before in
+    let b2 = b1 .before in
+    let b4 = b2 .before .before in
+    let b6 = b4 .before .before in
+    rw (← (rw (b4 .v .given .1) at (b6 .next-number .ensures .0)), sym (b2 .at-end .ensures) ∙ b1 .if1 .taken, c .double-of .ensures)
 
 enum-told : tie.Need-enum-told
 enum-told c = search needs
 
 returns-2 : tie.Need-returns-2
+unfolding onlyDouble end
 returns-2 c =
-    let v = c .before .before .before in
-    let a = v .before .before .before .before .args in
-    let e = subst (λ (r : Next). NextIn r (length (a .s .now))) (v .v .given .1) (v .before .before .next-number .ensures .1) in
-    only-more (a .s .now) (a .c .at) _ _ (sym (v .v .given .1) ∙ v .before .before .next-number .ensures .0) e (sym (c .before .at-end .ensures) ∙ c .if1 .left)
+    let b1 = c .before in
+    let b3 = b1 .before .before in
+    let b5 = b3 .before .before in
+    rw (← (rw (b3 .v .given .1) at (b5 .next-number .ensures .0)), sym (b1 .at-end .ensures) ∙ c .if1 .left)
 
 returns-3 : tie.Need-returns-3
-returns-3 c =
-    let a = c .before .before .before .before .args in
-    only-none (a .s .now) (a .c .at) (sym (c .enum-told .given .1) ∙ c .before .before .next-number .ensures .0)
+unfolding onlyDouble
+returns-3 c = rw (← (rw (c .enum-told .given .1) at (c .before .before .next-number .ensures .0)))
 
 pub only-double-spec : {M : Type 1} → statement M
 only-double-spec =

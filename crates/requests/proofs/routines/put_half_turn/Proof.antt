@@ -50,26 +50,26 @@ same-length c = search needs
 
 returns : tie.Need-returns
 returns c =
-    let p = c .before .before in
-    let q = p .before .before .before .before .before in
-    let t = q .before .before .before .before in
-    let u = t .before .before .before .before .before in
-    let v = u .before .before .before .before in
-    let r = v .before .before .before .before in
-    let a = r .before .before .before .args in
-    let w = r .r .given .0 .0 in (
-      omega (arith, p .put3 .ensures .0, q .put-double2 .ensures .0, t .put2 .ensures .0, u .put-double .ensures .0, v .put .ensures .0),
-      omega (arith, p .put3 .ensures .0, q .put-double2 .ensures .1, t .put2 .ensures .0, u .put-double .ensures .1, v .put .ensures .0),
-      rw (r .r .given .1)
-          (written (take (a .at) (a .out .now)) (bytes "half_turn " ∷ doubleText (w .sin) ∷ bytes " " ∷ doubleText (w .cos) ∷ bytes "\n" ∷ []) _
-          (_, v .put .ensures .1, (_, u .put-double .ensures .2, (_, t .put2 .ensures .1, (_, q .put-double2 .ensures .2, (_, p .put3 .ensures .1, refl)))))),
+    let b2 = c .before .before in
+    let b7 = b2 .before .before .before .before .before in
+    let b11 = b7 .before .before .before .before in
+    let b16 = b11 .before .before .before .before .before in
+    let b20 = b16 .before .before .before .before in
+    let b24 = b20 .before .before .before .before in
+    let b27 = b24 .before .before .before in (
+      omega (arith, b2 .put3 .ensures .0, b7 .put-double2 .ensures .0, b11 .put2 .ensures .0, b16 .put-double .ensures .0, b20 .put .ensures .0),
+      omega (arith, b2 .put3 .ensures .0, b7 .put-double2 .ensures .1, b11 .put2 .ensures .0, b16 .put-double .ensures .1, b20 .put .ensures .0),
+      rw (b24 .r .given .1) (written (take (b27 .args .at) (b27 .args .out .now)) (bytes "half_turn " ∷ doubleText (b24 .r .given .0 .0 .sin) ∷ bytes " " ∷ doubleText (b24 .r .given .0 .0 .cos) ∷ bytes "\n" ∷ []) _ (_, b20 .put .ensures .1, (_, b16 .put-double .ensures .2, (_, b11 .put2 .ensures .1, (_, b7 .put-double2 .ensures .2, (_, b2 .put3 .ensures .1, refl)))))),
     )
 
 same-length-2 : tie.Need-same-length-2
 same-length-2 c = search needs
 
 returns-2 : tie.Need-returns-2
-returns-2 c = (search needs, search needs, rw (c .before .before .before .before .before .enum-told .given .1) (c .before .before .put4 .ensures .1))
+returns-2 c =
+    let b2 = c .before .before in
+    let b5 = b2 .before .before .before in
+    (search needs, search needs, rw (b5 .enum-told .given .1) (b2 .put4 .ensures .1))
 
 pub put-half-turn-spec : {M : Type 1} → statement M
 put-half-turn-spec =

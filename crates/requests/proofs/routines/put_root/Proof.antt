@@ -41,23 +41,24 @@ same-length c = search needs
 
 returns : tie.Need-returns
 returns c =
-    let p = c .before .before in
-    let q = p .before .before .before .before .before in
-    let t = q .before .before .before .before in
-    let r = t .before .before .before .before in
-    let a = r .before .before .before .args in (
-      omega (arith, p .put2 .ensures .0, q .put-double .ensures .0, t .put .ensures .0),
-      omega (arith, p .put2 .ensures .0, q .put-double .ensures .1, t .put .ensures .0),
-      rw (r .r .given .1)
-          (written (take (a .at) (a .out .now)) (bytes "root " ∷ doubleText (r .r .given .0 .0) ∷ bytes "\n" ∷ []) _
-          (_, t .put .ensures .1, (_, q .put-double .ensures .2, (_, p .put2 .ensures .1, refl)))),
+    let b2 = c .before .before in
+    let b7 = b2 .before .before .before .before .before in
+    let b11 = b7 .before .before .before .before in
+    let b15 = b11 .before .before .before .before in
+    let b18 = b15 .before .before .before in (
+      omega (arith, b11 .put .ensures .0, b7 .put-double .ensures .0, b2 .put2 .ensures .0),
+      omega (arith, b11 .put .ensures .0, b7 .put-double .ensures .1, b2 .put2 .ensures .0),
+      rw (b15 .r .given .1) (written (take (b18 .args .at) (b18 .args .out .now)) (bytes "root " ∷ doubleText (b15 .r .given .0 .0) ∷ bytes "\n" ∷ []) _ (_, b11 .put .ensures .1, (_, b7 .put-double .ensures .2, (_, b2 .put2 .ensures .1, refl)))),
     )
 
 same-length-2 : tie.Need-same-length-2
 same-length-2 c = search needs
 
 returns-2 : tie.Need-returns-2
-returns-2 c = (search needs, search needs, rw (c .before .before .before .before .before .enum-told .given .1) (c .before .before .put3 .ensures .1))
+returns-2 c =
+    let b2 = c .before .before in
+    let b5 = b2 .before .before .before in
+    (search needs, search needs, rw (b5 .enum-told .given .1) (b2 .put3 .ensures .1))
 
 pub put-root-spec : {M : Type 1} → statement M
 put-root-spec =

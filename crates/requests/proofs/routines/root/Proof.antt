@@ -1,6 +1,6 @@
--- `routines::root` meets its contract. Each way out is its case of `rootText`.
+-- `routines::root` meets its contract. Each way out is its case of `rootRequest`.
 use borrow.Author.Needs.{needs}
-use Rattle.requests.specs.Routines.{rootText}
+use Rattle.requests.specs.Routines.{rootRequest}
 use Rattle.requests.proofs.routines.root.Statement.{statement}
 use Rattle.requests.proofs.routines.root.Tie as tie
 
@@ -26,18 +26,24 @@ same-length : tie.Need-same-length
 same-length c = search needs
 
 returns : tie.Need-returns
-unfolding rootText
+unfolding rootRequest
 returns c =
-    let p = c .before .before in
-    let x = p .before .before .before .before in
-    (search needs, search needs, rw (← x .before .before .only-double .ensures, x .x .given .1, ← p .before .sqrt .ensures .0) (p .put-root .ensures .2))
+    let b2 = c .before .before in
+    let b3 = b2 .before in
+    let b6 = b3 .before .before .before in
+    let b8 = b6 .before .before in
+    (search needs, search needs, rw (← (rw (b6 .x .given .1) at (b8 .only-double .ensures)), ← b3 .sqrt .ensures .0) (b2 .put-root .ensures .2))
 
 same-length-2 : tie.Need-same-length-2
 same-length-2 c = search needs
 
 returns-2 : tie.Need-returns-2
-unfolding rootText
-returns-2 c = (search needs, search needs, rw (← c .before .before .before .before .before .before .only-double .ensures, c .before .before .before .before .enum-told .given .1) (c .before .before .error .ensures .2))
+unfolding rootRequest
+returns-2 c =
+    let b2 = c .before .before in
+    let b4 = b2 .before .before in
+    let b6 = b4 .before .before in
+    (search needs, search needs, rw (← (rw (b4 .enum-told .given .1) at (b6 .only-double .ensures))) (b2 .error .ensures .2))
 
 pub root-spec : {M : Type 1} → statement M
 root-spec =

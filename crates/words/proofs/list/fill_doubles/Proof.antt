@@ -1,29 +1,26 @@
--- `list::fill_doubles` meets its contract. The items left, from where reading stands, make the list that all n make.
-use mathlib.Core.Path.{_≡_, refl, sym, _∙_, subst}
+-- `list::fill_doubles` meets its contract. The items left, behind those read, make the list that all n make.
+use mathlib.Core.Path.{_≡_, refl, _∙_}
 use Prim.Native.Nat.{_-_, _≤_}
 use native.Mathlib.Omega.{arith}
-use lib.ListN.{length, length-set}
+use lib.ListN.{length, take, length-set, drop}
 use lib.Ieee.{binary64, ofBits}
 use borrow.Author.Needs.{needs}
-use Rattle.words.specs.declared.read.Next.{Next}
-use Rattle.words.specs.Read.{NextIn}
-use Rattle.words.specs.List.{fillFrom}
-use Rattle.words.proofs.list.Laws.{fill-is, fill-no, fill-end, fill-start}
+use Rattle.words.specs.Read.{wordsOf}
+use Rattle.words.specs.List.{items}
+use Rattle.words.proofs.list.Laws.{behind, fill-is, fill-no, fill-end, fill-start}
 use Rattle.words.proofs.list.fill_doubles.Statement.{statement}
 use Rattle.words.proofs.list.fill_doubles.Tie as tie
 
 abbrev Inv-loop : tie.InvT-loop
-Inv-loop s n into₀ count at₀ k₀ into at k =
-    (k ≤ n) × (count ≡ n) × (at ≤ length s) × (length into ≡ length into₀)
-    × (fillFrom (ofBits binary64) s (n - k) k at into ≡ fillFrom (ofBits binary64) s n 0 at₀ into₀)
+Inv-loop s n into₀ count at₀ k₀ into at k = (k ≤ n) × (count ≡ n) × (at ≤ length s) × (length into ≡ length into₀) × (behind (take k into) (items (ofBits binary64) (n - k) (wordsOf (drop at s))) ≡ items (ofBits binary64) n (wordsOf (drop at₀ s)))
 
 abbrev μ-loop : tie.MeasureT-loop
 μ-loop s n into₀ count at₀ k₀ into at k = n - k
 
 loop-holds : tie.Need-loop-holds Inv-loop μ-loop
 loop-holds c =
-    let o = c .before .before in
-    (search needs, refl, search needs, refl, fill-start (ofBits binary64) (o .args .s .now) (o .args .n) (o .args .c .at) (o .args .into .now))
+    let b2 = c .before .before in
+    (search needs, refl, search needs, refl, fill-start (ofBits binary64) (b2 .args .n) (b2 .args .into .now) _)
 
 next-number-requires : tie.Need-next-number-requires Inv-loop μ-loop
 next-number-requires c κs = search needs
@@ -48,9 +45,12 @@ same-length c = search needs
 
 returns : tie.Need-returns Inv-loop μ-loop
 returns c =
-    let o = c .before .before .before .before in
-    let a = o .before .before .before .args in
-    (fill-no (ofBits binary64) (a .s .now) (a .n) (o .loop .k) (o .loop .at) (o .loop .into) (omega arith) (sym (c .enum-told .given .1) ∙ c .before .before .next-number .ensures .0) ∙ o .loop .inv .4, tt)
+    let b2 = c .before .before in
+    let b4 = b2 .before .before in
+    let b7 = b4 .before .before .before in (
+      fill-no (ofBits binary64) (b7 .args .n) (b4 .loop .k) (b4 .loop .into) _ (omega arith) (rw (c .enum-told .given .1) at (b2 .next-number .ensures .0)) ∙ b4 .loop .inv .4,
+      tt,
+    )
 
 add-k : tie.Need-add-k Inv-loop μ-loop
 add-k c = search needs
@@ -60,14 +60,15 @@ loop-less c = search needs
 
 loop-again : tie.Need-loop-again Inv-loop μ-loop
 loop-again c =
-    let v = c .before .before in
-    let o = v .before .before .before .before in
-    let a = o .before .before .before .args in (
+    let b2 = c .before .before in
+    let b4 = b2 .before .before in
+    let b6 = b4 .before .before in
+    let b9 = b6 .before .before .before in (
       search needs,
       search needs,
-      subst (λ (r : Next). NextIn r (length (a .s .now))) (v .v .given .1) (v .before .before .next-number .ensures .1),
+      rw (b2 .v .given .1) at (b4 .next-number .ensures .1),
       simp length-set (search needs),
-      rw (c .double-of .ensures) (fill-is (ofBits binary64) (a .s .now) (a .n) (o .loop .k) (o .loop .at) (o .loop .into) (v .v .given .0 .0) (v .v .given .0 .1 .0 .at) (omega arith) (sym (v .v .given .1) ∙ v .before .before .next-number .ensures .0) ∙ o .loop .inv .4),
+      rw (c .double-of .ensures) (fill-is (ofBits binary64) (b9 .args .n) (b6 .loop .k) (b6 .loop .into) _ (b2 .v .given .0 .0) _ (omega arith) (omega arith) (rw (b2 .v .given .1) at (b4 .next-number .ensures .0)) ∙ b6 .loop .inv .4),
     )
 
 same-length-2 : tie.Need-same-length-2 Inv-loop μ-loop
@@ -75,9 +76,9 @@ same-length-2 c = search needs
 
 returns-2 : tie.Need-returns-2 Inv-loop μ-loop
 returns-2 c =
-    let o = c .before in
-    let a = o .before .before .before .args in
-    (fill-end (ofBits binary64) (a .s .now) (a .n) (o .loop .k) (o .loop .at) (o .loop .into) (omega arith) ∙ o .loop .inv .4, search needs)
+    let b1 = c .before in
+    let b4 = b1 .before .before .before in
+    (fill-end (ofBits binary64) (b4 .args .n) (b1 .loop .k) (b1 .loop .into) _ (omega arith) ∙ b1 .loop .inv .4, search needs)
 
 pub fill-doubles-spec : {M : Type 1} → statement M
 fill-doubles-spec =

@@ -1,7 +1,7 @@
 -- `read::next_number` meets its contract. The word's number, and where the word stops.
 use native.Mathlib.Omega.{arith}
 use borrow.Author.Needs.{needs}
-use Rattle.words.proofs.read.Laws.{next-is, next-no}
+use Rattle.words.proofs.read.Words.{number-is, number-no}
 use Rattle.words.proofs.read.next_number.Statement.{statement}
 use Rattle.words.proofs.read.next_number.Tie as tie
 
@@ -28,17 +28,11 @@ enum-told c = search needs
 
 returns : tie.Need-returns
 returns c =
-    let o = c .before .before .before .before .before in (
-      next-is (o .before .before .args .s .now) (o .before .before .args .c .at) (o .next-word .ensures .1 .0) (o .next-word .ensures .1 .1) (c .before .before .before .number-of .ensures) _ (c .before .v .given .1),
-      omega (arith, o .next-word .ensures .0),
-    )
+    let o = c .before .before .before .before .before in
+    (number-is _ (o .next-word .ensures .1) (c .before .before .before .number-of .ensures) _ (c .before .v .given .1), omega (arith, o .next-word .ensures .0))
 
 returns-2 : tie.Need-returns-2
-returns-2 c =
-    let o = c .before .before .before .before in (
-      next-no (o .before .before .args .s .now) (o .before .before .args .c .at) (o .next-word .ensures .1 .0) (o .next-word .ensures .1 .1) (c .before .before .number-of .ensures) (c .enum-told .given .1),
-      tt,
-    )
+returns-2 c = (number-no _ (c .before .before .before .before .next-word .ensures .1) (c .before .before .number-of .ensures) (c .enum-told .given .1), tt)
 
 pub next-number-spec : {M : Type 1} → statement M
 next-number-spec =
