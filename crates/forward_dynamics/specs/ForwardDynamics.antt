@@ -1,0 +1,61 @@
+-- Forward dynamics as a calculation in visits: its checks and its visits (document 01). Definitions only.
+use mathlib.Core.Bool.{Bool, true, false}
+use mathlib.Core.List.{List}
+use mathlib.Core.Path.{_≡_}
+use Prim.Native.Nat.{ℕ, _+_, _*_, _<_}
+use lib.Ieee.{Float}
+use Rattle.numbers.specs.declared.quaternion.Quaternion.{Quaternion}
+use Rattle.spatial.specs.Twist.{zerosOf}
+use Rattle.spatial.specs.declared.twist.Twist.{Twist}
+use Rattle.arm.specs.Topology.{activesOf}
+use Rattle.arm.specs.declared.model.Model.{Model}
+use Rattle.calls.specs.Position.{Work}
+use Rattle.calls.specs.declared.position.Position.{Position}
+use Rattle.articulated.specs.Root.{rootVelocity}
+use Rattle.forward_visits.specs.Plan.{planOf, Fit, Room}
+use Rattle.forward_dynamics.specs.Checks.{inputsVerdict}
+use Rattle.forward_visits.specs.Kernel.{visitOf}
+use Rattle.forward_dynamics.specs.declared.forward_dynamics.Mode.{Mode}
+use Rattle.forward_dynamics.specs.declared.forward_dynamics.Mode.the-variants.{Fixed, Floating}
+use Rattle.forward_visits.specs.declared.plan.Plan.{Plan}
+
+-- whether the root floats, its rotation, and the base's velocity in the world
+abbrev pub floats : Mode → Bool
+floats (Fixed rotation) = false
+floats (Floating rotation base) = true
+
+abbrev pub rotationOf : Mode → Quaternion
+rotationOf (Fixed rotation) = rotation
+rotationOf (Floating rotation base) = rotation
+
+abbrev pub baseOf : Mode → Twist
+baseOf (Fixed rotation) = zerosOf
+baseOf (Floating rotation base) = base
+
+unfoldable pub forwardDynamics : Mode → Model → List Float → List Float → List Float → List ℕ → List Float → Work
+forwardDynamics mode m q qd forces loaded loads =
+    record {
+      matrix = false;
+      floating = floats mode;
+      n = m .n;
+      a = activesOf (m .kinds) (m .n);
+      inputs = inputsVerdict (floats mode) (rotationOf mode) (baseOf mode) (m .n) (m .parents) (m .kinds) q qd forces loaded loads;
+      visit = visitOf (planOf (floats mode) (m .n) (m .kinds)) (rotationOf mode) (rootVelocity (rotationOf mode) (baseOf mode)) m q qd forces loaded loads;
+      results = m .n * 95 + 48;
+    }
+
+-- ---- what the steps of the code promise each other
+
+-- the checks have passed
+pub record Ready (p : Plan) (parents kinds numbers : List ℕ) (q qd forces loaded loads ws out : ℕ) : Type 0 where
+  pub fit : Fit p parents kinds numbers
+  pub room : Room p ws
+  pub values : q ≡ activesOf kinds (p .n)
+  pub speeds : qd ≡ activesOf kinds (p .n)
+  pub given : forces ≡ p .side
+  pub sixes : loads ≡ 6 * loaded
+  pub output : out ≡ p .side
+
+-- an open position has a visit left
+abbrev pub Within : Plan → Position → Type 0
+Within p s = s .closed ≡ false → s .visits < p .n + p .n + p .n + 1

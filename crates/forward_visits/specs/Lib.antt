@@ -1,0 +1,7 @@
+pub mod Plan
+pub mod Loads
+pub mod First
+pub mod Second
+pub mod Root
+pub mod Third
+pub mod Kernel

@@ -1,0 +1,107 @@
+// The joints rising, first pass.
+ghost use mathlib.Core.Path.{_≡_};
+ghost use Prim.Native.Nat.{_+_, _*_, _≤_, _<_};
+ghost use lib.ListN.{length};
+ghost use Rattle.arm.specs.Model.{bundle};
+ghost use Rattle.arm.specs.Topology.{activesOf};
+ghost use Rattle.forward_visits.specs.Plan.{Fit, Room};
+ghost use Rattle.forward_visits.specs.First.{parentTwist, putFirst, firstAt, firstVisit};
+use crate::plan::Plan;
+use arm::model;
+use arm::topology;
+use articulated::first;
+use articulated::first::First;
+use spatial::twist::Twist;
+
+// The twist of a parent link: the root's, or the one at an offset of the parent's joint.
+pub fn parent_twist(ws: &[f64], parent: usize, root: Twist, offset: usize) -> Twist
+    requires { ⌜ (parent ≤ 32) × (parent * 95 ≤ length (now ws)) × (offset + 6 ≤ 95) ⌝ }
+    ensures { λ r. ⌜ r ≡ parentTwist (now (ws .entry)) parent root offset ⌝ }
+{
+    if parent == 0 {
+        return root;
+    }
+    slots::twist_at(ws, (parent - 1) * 95 + offset)
+}
+
+fn put_first(ws: &mut [f64], at: usize, f: First)
+    requires { ⌜ at + 95 ≤ length (now ws) ⌝ }
+    ensures { λ _. ⌜ now (ws .exit) ≡ putFirst (now (ws .entry)) at f ⌝ }
+{
+    let frame = f.frame;
+    let velocity = f.velocity;
+    let bias = f.bias;
+    let force = f.force;
+    slots::put_frame(ws, at, frame);
+    slots::put_twist(ws, at + 7, velocity);
+    slots::put_twist(ws, at + 13, bias);
+    slots::put_wrench(ws, at + 55, force);
+}
+
+// What joint j works out, of a link with this inertia.
+fn first_at<'a>(
+    p: Plan,
+    velocity: Twist,
+    parents: &'a [u8; 32],
+    kinds: &'a [u8; 32],
+    origins: &'a [f64; 224],
+    axes: &'a [f64; 96],
+    numbers: &'a [u8; 33],
+    q: &'a [f64],
+    qd: &'a [f64],
+    inertia: &'a [f64; 36],
+    ws: &'a [f64],
+    j: usize,
+) -> First
+    requires { ⌜ Fit p (now parents) (now kinds) (now numbers) × Room p (length (now ws)) × (j < p .n) × (length (now q) ≡ activesOf (now kinds) (p .n)) × (length (now qd) ≡ activesOf (now kinds) (p .n)) ⌝ }
+    ensures { λ r. ⌜ r ≡ firstAt velocity (now (parents .entry)) (now (kinds .entry)) (now (origins .entry)) (now (axes .entry)) (now (q .entry)) (now (qd .entry)) (now (inertia .entry)) j (now (ws .entry)) ⌝ }
+{
+    let n = p.n;
+    let joint = model::joint_at(n, parents, kinds, origins, axes, j);
+    let parent = joint.parent;
+    let origin = joint.origin;
+    let motion = joint.motion;
+    let value = topology::value_at(kinds, numbers, q, n, j);
+    let speed = topology::value_at(kinds, numbers, qd, n, j);
+    let carried = parent_twist(ws, parent, velocity, 7);
+    let load = slots::wrench_at(ws, j * 95 + 75);
+    first::first_pass(origin, motion, value, speed, carried, inertia, load)
+}
+
+// Joint j's numbers of the first pass, and its own link's inertia.
+pub fn first_visit<'a>(
+    p: Plan,
+    velocity: Twist,
+    parents: &'a [u8; 32],
+    kinds: &'a [u8; 32],
+    origins: &'a [f64; 224],
+    axes: &'a [f64; 96],
+    links: &'a [f64; 330],
+    numbers: &'a [u8; 33],
+    q: &'a [f64],
+    qd: &'a [f64],
+    ws: &mut [f64],
+    j: usize,
+)
+    requires { ⌜ Fit p (now parents) (now kinds) (now numbers) × Room p (length (now ws)) × (j < p .n) × (length (now q) ≡ activesOf (now kinds) (p .n)) × (length (now qd) ≡ activesOf (now kinds) (p .n)) ⌝ }
+    ensures { λ _. ⌜ now (ws .exit) ≡ firstVisit velocity (bundle (p .n) (now (parents .entry)) (now (kinds .entry)) (now (origins .entry)) (now (axes .entry)) (now (links .entry))) (now (q .entry)) (now (qd .entry)) j (now (ws .entry)) ⌝ }
+{
+    let link = model::link_at(links, j + 1);
+    let inertia = first::body_inertia(link);
+    let f = first_at(
+        p,
+        velocity,
+        parents,
+        kinds,
+        origins,
+        axes,
+        numbers,
+        q,
+        qd,
+        &inertia,
+        ws,
+        j,
+    );
+    put_first(ws, j * 95, f);
+    slots::put_mat6(ws, j * 95 + 19, &inertia);
+}
