@@ -7,7 +7,7 @@ use lib.ListN.{take, drop}
 use Rattle.words.specs.Line.{inLine, lineStep}
 use Rattle.arm.specs.Model.{emptyModel}
 use Rattle.arm.specs.declared.model.Model.{Model}
-use Rattle.requests.specs.Reply.{errorText}
+use Rattle.replies.specs.Replies.{errorText}
 use Rattle.requests.specs.Answer.{answerOf}
 use Rattle.desk.specs.declared.block.Stand.{Stand}
 

@@ -2,13 +2,13 @@
 ghost use mathlib.Core.Path.{_≡_};
 ghost use Prim.Native.Nat.{_+_, _≤_, _<_};
 ghost use lib.ListN.{length, take};
-ghost use Rattle.requests.specs.Reply.{room, behind};
+ghost use Rattle.replies.specs.Replies.{room, behind};
 ghost use Rattle.desk.specs.Block.{endOf, Moved};
 use arm::model::Model;
+use replies::ROOM;
+use replies::Reply;
+use replies::error;
 use requests::answer::answer;
-use requests::reply::ROOM;
-use requests::reply::Reply;
-use requests::reply::error;
 use words::line::gather;
 
 // Where reading stands in the block, the length of the line so far, whether it has grown too long, where the answers end, and the current model.

@@ -6,20 +6,34 @@ use lib.Dec.{eqb}
 use Rattle.words.specs.Read.{wordsOf, sameOf, Reader, give, fail, _>>=_, word}
 use Rattle.words.specs.Write.{bytes}
 use Rattle.arm.specs.declared.model.Model.{Model as Arm}
+use Rattle.calculations.specs.Column.{columnRequest}
+use Rattle.calculations.specs.Read.{kindOf}
+use Rattle.calculations.specs.Request.{calculateRequest, repeatRequest, resumeRequest}
+use Rattle.calculations.specs.declared.make.How.the-variants.{Times}
+use Rattle.calculations.specs.declared.read.Named.{Named}
+use Rattle.calculations.specs.declared.read.Named.the-variants.{Is, No}
 use Rattle.requests.specs.declared.answer.Name.{Name}
-use Rattle.requests.specs.declared.answer.Name.the-variants.{Model, Lend, Root, HalfTurn, Unknown}
-use Rattle.requests.specs.Reply.{replyOf}
+use Rattle.requests.specs.declared.answer.Name.the-variants.{Model, Lend, Calculation, Column, Root, Repeat, Resume, HalfTurn, Unknown}
+use Rattle.replies.specs.Replies.{replyOf}
 use Rattle.requests.specs.Models.{modelRequest, lendRequest}
 use Rattle.requests.specs.Routines.{rootRequest, halfTurnRequest}
+
+-- a calculation's name, or none
+abbrev pub kindName : Named → Name
+kindName (Is k) = Calculation k
+kindName No = Unknown
 
 -- the request that a word names
 unfoldable pub nameOf : List ℕ → Name
 nameOf w =
     cond (sameOf w (bytes "model")) Model
     (cond (sameOf w (bytes "lend")) Lend
+    (cond (sameOf w (bytes "column")) Column
     (cond (sameOf w (bytes "root")) Root
+    (cond (sameOf w (bytes "repeat")) Repeat
+    (cond (sameOf w (bytes "resume")) Resume
     (cond (sameOf w (bytes "half_turn")) HalfTurn
-    Unknown)))
+    (kindName (kindOf w))))))))
 
 -- a request that keeps the current model
 abbrev pub keeping : Arm → Reader (List ℕ) → Reader (List ℕ × Arm)
@@ -31,7 +45,11 @@ keeping m r = do
 abbrev pub namedRequest : Arm → Name → Reader (List ℕ × Arm)
 namedRequest m Model = modelRequest
 namedRequest m Lend = lendRequest
+namedRequest m (Calculation k) = keeping m (calculateRequest m (Times 1) k)
+namedRequest m Column = keeping m columnRequest
 namedRequest m Root = keeping m rootRequest
+namedRequest m Repeat = keeping m (repeatRequest m)
+namedRequest m Resume = keeping m (resumeRequest m)
 namedRequest m HalfTurn = keeping m halfTurnRequest
 namedRequest m Unknown = fail
 

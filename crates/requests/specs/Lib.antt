@@ -1,4 +1,3 @@
 pub mod Answer
 pub mod Models
-pub mod Reply
 pub mod Routines

@@ -15,7 +15,7 @@ use Rattle.refusals.specs.declared.Verdict.the-variants.{Fine, Refused}
 use Rattle.arm.specs.Build.{builtOf}
 use Rattle.arm.specs.declared.build.Built.{Built}
 use Rattle.arm.specs.declared.model.Model.{Model}
-use Rattle.requests.specs.Reply.{refusedText}
+use Rattle.replies.specs.Replies.{refusedText}
 use Rattle.requests.specs.declared.models.Sizes.{Sizes}
 use Rattle.requests.specs.declared.models.Lent.{Lent}
 use Rattle.requests.specs.declared.models.Handed.{Handed}

@@ -3,15 +3,23 @@ ghost use mathlib.Core.Path.{_≡_};
 ghost use Prim.Native.Nat.{_+_, _≤_};
 ghost use lib.ListN.{length, take};
 ghost use Rattle.words.specs.Read.{wordsOf};
-ghost use Rattle.requests.specs.Reply.{room, replyOf, behind};
+ghost use Rattle.replies.specs.Replies.{room, replyOf, behind};
 ghost use Rattle.requests.specs.Answer.{nameOf, requestOf, answerOf};
 use crate::models::lend;
 use crate::models::model;
-use crate::reply::Reply;
-use crate::reply::error;
 use crate::routines::half_turn;
 use crate::routines::root;
 use arm::model::Model;
+use calculations::column::column;
+use calculations::make::How;
+use calculations::read::Kind;
+use calculations::read::Named;
+use calculations::read::kind_of;
+use calculations::request::calculate;
+use calculations::request::repeat;
+use calculations::request::resume;
+use replies::Reply;
+use replies::error;
 use words::read::Cursor;
 use words::read::next_word;
 use words::read::same;
@@ -20,7 +28,11 @@ use words::read::same;
 pub enum Name {
     Model,
     Lend,
+    Calculation(Kind),
+    Column,
     Root,
+    Repeat,
+    Resume,
     HalfTurn,
     Unknown,
 }
@@ -34,13 +46,25 @@ fn name_of(w: &[u8]) -> Name
     if same(w, b"lend") {
         return Name::Lend;
     }
+    if same(w, b"column") {
+        return Name::Column;
+    }
     if same(w, b"root") {
         return Name::Root;
+    }
+    if same(w, b"repeat") {
+        return Name::Repeat;
+    }
+    if same(w, b"resume") {
+        return Name::Resume;
     }
     if same(w, b"half_turn") {
         return Name::HalfTurn;
     }
-    Name::Unknown
+    match kind_of(w) {
+        Named::Is(k) => Name::Calculation(k),
+        Named::No => Name::Unknown,
+    }
 }
 
 fn request(m: Model, s: &[u8], out: &mut [u8], at: usize) -> Reply
@@ -55,6 +79,22 @@ fn request(m: Model, s: &[u8], out: &mut [u8], at: usize) -> Reply
     match name {
         Name::Model => model(m, s, c, out, at),
         Name::Lend => lend(m, s, c, out, at),
+        Name::Calculation(k) => {
+            let end = calculate(m, How::Times(1), k, s, c, out, at);
+            Reply { end, model: m }
+        }
+        Name::Column => {
+            let end = column(s, c, out, at);
+            Reply { end, model: m }
+        }
+        Name::Repeat => {
+            let end = repeat(m, s, c, out, at);
+            Reply { end, model: m }
+        }
+        Name::Resume => {
+            let end = resume(m, s, c, out, at);
+            Reply { end, model: m }
+        }
         Name::Root => {
             let end = root(s, c, out, at);
             Reply { end, model: m }

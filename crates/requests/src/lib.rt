@@ -1,5 +1,4 @@
 // What one line of input is answered: a function for each request, and `answer`, which chooses by the line's first word.
 pub mod answer;
 mod models;
-pub mod reply;
 mod routines;

@@ -9,7 +9,7 @@ use lib.Seq.{drop-drop}
 use Rattle.words.specs.Read.{runOf}
 use Rattle.words.specs.Line.{inLine, lineStep, lineOf, beforeOf}
 use Rattle.arm.specs.declared.model.Model.{Model}
-use Rattle.requests.specs.Reply.{behind}
+use Rattle.replies.specs.Replies.{behind}
 use Rattle.desk.specs.declared.block.Stand.{Stand}
 use Rattle.desk.specs.Block.{State, newLine, endOf, answersOf, leftOf, Moved}
 

@@ -4,6 +4,10 @@ use borrow.Author.Needs.{needs}
 use Rattle.requests.specs.Answer.{nameOf}
 use Rattle.requests.proofs.answer.name_of.Statement.{statement}
 use Rattle.requests.proofs.answer.name_of.Tie as tie
+use Rattle.requests.proofs.answer.name_of.Reads as reads
+use Rattle.requests.proofs.answer.name_of.Lts as lts
+use Rattle.calculations.proofs.read.kind_of.Reads as kind-of-reads
+use Rattle.words.proofs.read.same.Reads as same-reads
 
 slice-aggregate-same : tie.Need-slice-aggregate-same
 slice-aggregate-same c = search needs
@@ -13,7 +17,7 @@ same-requires c κs = search needs
 
 returns : tie.Need-returns
 unfolding nameOf
-returns c = rw (sym (c .before .same .ensures) ∙ c .if1 .taken)
+returns c = let b1 = c .before in rw (sym (b1 .same .ensures) ∙ c .if1 .taken)
 
 slice-aggregate-same-2 : tie.Need-slice-aggregate-same-2
 slice-aggregate-same-2 c = search needs
@@ -23,11 +27,7 @@ same-requires-2 c κs = search needs
 
 returns-2 : tie.Need-returns-2
 unfolding nameOf
-returns-2 c =
-    let b1 = c .before in
-    let b3 = b1 .before .before in
-    let b4 = b3 .before in
-    rw (sym (b4 .same .ensures) ∙ b3 .if1 .left, sym (b1 .same2 .ensures) ∙ c .if2 .taken)
+returns-2 c = let b1 = c .before in let b3 = b1 .before .before in let b4 = b3 .before in rw (sym (b4 .same .ensures) ∙ b3 .if1 .left, sym (b1 .same2 .ensures) ∙ c .if2 .taken)
 
 slice-aggregate-same-3 : tie.Need-slice-aggregate-same-3
 slice-aggregate-same-3 c = search needs
@@ -37,13 +37,7 @@ same-requires-3 c κs = search needs
 
 returns-3 : tie.Need-returns-3
 unfolding nameOf
-returns-3 c =
-    let b1 = c .before in
-    let b3 = b1 .before .before in
-    let b4 = b3 .before in
-    let b6 = b4 .before .before in
-    let b7 = b6 .before in
-    rw (sym (b7 .same .ensures) ∙ b6 .if1 .left, sym (b4 .same2 .ensures) ∙ b3 .if2 .left, sym (b1 .same3 .ensures) ∙ c .if3 .taken)
+returns-3 c = let b1 = c .before in let b3 = b1 .before .before in let b4 = b3 .before in let b6 = b4 .before .before in let b7 = b6 .before in rw (sym (b7 .same .ensures) ∙ b6 .if1 .left, sym (b4 .same2 .ensures) ∙ b3 .if2 .left, sym (b1 .same3 .ensures) ∙ c .if3 .taken)
 
 slice-aggregate-same-4 : tie.Need-slice-aggregate-same-4
 slice-aggregate-same-4 c = search needs
@@ -53,27 +47,54 @@ same-requires-4 c κs = search needs
 
 returns-4 : tie.Need-returns-4
 unfolding nameOf
-returns-4 c =
-    let b1 = c .before in
-    let b3 = b1 .before .before in
-    let b4 = b3 .before in
-    let b6 = b4 .before .before in
-    let b7 = b6 .before in
-    let b9 = b7 .before .before in
-    let b10 = b9 .before in
-    rw (sym (b10 .same .ensures) ∙ b9 .if1 .left, sym (b7 .same2 .ensures) ∙ b6 .if2 .left, sym (b4 .same3 .ensures) ∙ b3 .if3 .left, sym (b1 .same4 .ensures) ∙ c .if4 .taken)
+returns-4 c = let b1 = c .before in let b3 = b1 .before .before in let b4 = b3 .before in let b6 = b4 .before .before in let b7 = b6 .before in let b9 = b7 .before .before in let b10 = b9 .before in rw (sym (b10 .same .ensures) ∙ b9 .if1 .left, sym (b7 .same2 .ensures) ∙ b6 .if2 .left, sym (b4 .same3 .ensures) ∙ b3 .if3 .left, sym (b1 .same4 .ensures) ∙ c .if4 .taken)
+
+slice-aggregate-same-5 : tie.Need-slice-aggregate-same-5
+slice-aggregate-same-5 c = search needs
+
+same-requires-5 : tie.Need-same-requires-5
+same-requires-5 c κs = search needs
 
 returns-5 : tie.Need-returns-5
 unfolding nameOf
-returns-5 c =
-    let b1 = c .before in
-    let b3 = b1 .before .before in
-    let b4 = b3 .before in
-    let b6 = b4 .before .before in
-    let b7 = b6 .before in
-    let b9 = b7 .before .before in
-    let b10 = b9 .before in
-    rw (sym (b10 .same .ensures) ∙ b9 .if1 .left, sym (b7 .same2 .ensures) ∙ b6 .if2 .left, sym (b4 .same3 .ensures) ∙ b3 .if3 .left, sym (b1 .same4 .ensures) ∙ c .if4 .left)
+returns-5 c = let b1 = c .before in let b3 = b1 .before .before in let b4 = b3 .before in let b6 = b4 .before .before in let b7 = b6 .before in let b9 = b7 .before .before in let b10 = b9 .before in let b12 = b10 .before .before in let b13 = b12 .before in rw (sym (b13 .same .ensures) ∙ b12 .if1 .left, sym (b10 .same2 .ensures) ∙ b9 .if2 .left, sym (b7 .same3 .ensures) ∙ b6 .if3 .left, sym (b4 .same4 .ensures) ∙ b3 .if4 .left, sym (b1 .same5 .ensures) ∙ c .if5 .taken)
+
+slice-aggregate-same-6 : tie.Need-slice-aggregate-same-6
+slice-aggregate-same-6 c = search needs
+
+same-requires-6 : tie.Need-same-requires-6
+same-requires-6 c κs = search needs
+
+returns-6 : tie.Need-returns-6
+unfolding nameOf
+returns-6 c = let b1 = c .before in let b3 = b1 .before .before in let b4 = b3 .before in let b6 = b4 .before .before in let b7 = b6 .before in let b9 = b7 .before .before in let b10 = b9 .before in let b12 = b10 .before .before in let b13 = b12 .before in let b15 = b13 .before .before in let b16 = b15 .before in rw (sym (b16 .same .ensures) ∙ b15 .if1 .left, sym (b13 .same2 .ensures) ∙ b12 .if2 .left, sym (b10 .same3 .ensures) ∙ b9 .if3 .left, sym (b7 .same4 .ensures) ∙ b6 .if4 .left, sym (b4 .same5 .ensures) ∙ b3 .if5 .left, sym (b1 .same6 .ensures) ∙ c .if6 .taken)
+
+slice-aggregate-same-7 : tie.Need-slice-aggregate-same-7
+slice-aggregate-same-7 c = search needs
+
+same-requires-7 : tie.Need-same-requires-7
+same-requires-7 c κs = search needs
+
+returns-7 : tie.Need-returns-7
+unfolding nameOf
+returns-7 c = let b1 = c .before in let b3 = b1 .before .before in let b4 = b3 .before in let b6 = b4 .before .before in let b7 = b6 .before in let b9 = b7 .before .before in let b10 = b9 .before in let b12 = b10 .before .before in let b13 = b12 .before in let b15 = b13 .before .before in let b16 = b15 .before in let b18 = b16 .before .before in let b19 = b18 .before in rw (sym (b19 .same .ensures) ∙ b18 .if1 .left, sym (b16 .same2 .ensures) ∙ b15 .if2 .left, sym (b13 .same3 .ensures) ∙ b12 .if3 .left, sym (b10 .same4 .ensures) ∙ b9 .if4 .left, sym (b7 .same5 .ensures) ∙ b6 .if5 .left, sym (b4 .same6 .ensures) ∙ b3 .if6 .left, sym (b1 .same7 .ensures) ∙ c .if7 .taken)
+
+kind-of-requires : tie.Need-kind-of-requires
+kind-of-requires c κs = search needs
+
+enum-known-k : tie.Need-enum-known-k
+enum-known-k c = search needs
+
+enum-told : tie.Need-enum-told
+enum-told c = search needs
+
+returns-8 : tie.Need-returns-8
+unfolding nameOf
+returns-8 c = let b1 = c .before in let b3 = b1 .before .before in let b4 = b3 .before in let b5 = b4 .before in let b7 = b5 .before .before in let b8 = b7 .before in let b10 = b8 .before .before in let b11 = b10 .before in let b13 = b11 .before .before in let b14 = b13 .before in let b16 = b14 .before .before in let b17 = b16 .before in let b19 = b17 .before .before in let b20 = b19 .before in let b22 = b20 .before .before in let b23 = b22 .before in rw (sym (b23 .same .ensures) ∙ b22 .if1 .left, sym (b20 .same2 .ensures) ∙ b19 .if2 .left, sym (b17 .same3 .ensures) ∙ b16 .if3 .left, sym (b14 .same4 .ensures) ∙ b13 .if4 .left, sym (b11 .same5 .ensures) ∙ b10 .if5 .left, sym (b8 .same6 .ensures) ∙ b7 .if6 .left, sym (b5 .same7 .ensures) ∙ b4 .if7 .left, ← b3 .kind-of .ensures, b1 .k .given .1)
+
+returns-9 : tie.Need-returns-9
+unfolding nameOf
+returns-9 c = let b2 = c .before .before in let b3 = b2 .before in let b4 = b3 .before in let b6 = b4 .before .before in let b7 = b6 .before in let b9 = b7 .before .before in let b10 = b9 .before in let b12 = b10 .before .before in let b13 = b12 .before in let b15 = b13 .before .before in let b16 = b15 .before in let b18 = b16 .before .before in let b19 = b18 .before in let b21 = b19 .before .before in let b22 = b21 .before in rw (sym (b22 .same .ensures) ∙ b21 .if1 .left, sym (b19 .same2 .ensures) ∙ b18 .if2 .left, sym (b16 .same3 .ensures) ∙ b15 .if3 .left, sym (b13 .same4 .ensures) ∙ b12 .if4 .left, sym (b10 .same5 .ensures) ∙ b9 .if5 .left, sym (b7 .same6 .ensures) ∙ b6 .if6 .left, sym (b4 .same7 .ensures) ∙ b3 .if7 .left, ← b2 .kind-of .ensures, c .enum-told .given .1)
 
 pub name-of-spec : {M : Type 1} → statement M
 name-of-spec =
@@ -91,4 +112,17 @@ name-of-spec =
     slice-aggregate-same-4
     same-requires-4
     returns-4
-    returns-5)
+    slice-aggregate-same-5
+    same-requires-5
+    returns-5
+    slice-aggregate-same-6
+    same-requires-6
+    returns-6
+    slice-aggregate-same-7
+    same-requires-7
+    returns-7
+    kind-of-requires
+    enum-known-k
+    enum-told
+    returns-8
+    returns-9)

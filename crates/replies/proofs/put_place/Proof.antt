@@ -1,7 +1,7 @@
--- `reply::put_place` meets its contract. Each way out is its case of `placeText`.
+-- `replies::put_place` meets its contract. Each way out is its case of `placeText`.
 use borrow.Author.Needs.{needs}
-use Rattle.requests.proofs.reply.put_place.Statement.{statement}
-use Rattle.requests.proofs.reply.put_place.Tie as tie
+use Rattle.replies.proofs.put_place.Statement.{statement}
+use Rattle.replies.proofs.put_place.Tie as tie
 
 enum-known-p : tie.Need-enum-known-p
 enum-known-p c = search needs

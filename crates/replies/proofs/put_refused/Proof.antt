@@ -1,4 +1,4 @@
--- `reply::put_refused` meets its contract. What is written in a row is the row of the texts.
+-- `replies::put_refused` meets its contract. What is written in a row is the row of the texts.
 use mathlib.Core.Path.{refl}
 use mathlib.Core.List.{[], _∷_}
 use native.Mathlib.Omega.{arith}
@@ -7,9 +7,9 @@ use borrow.Author.Needs.{needs}
 use Rattle.words.specs.Read.{number}
 use Rattle.words.specs.Write.{bytes, decimalText}
 use Rattle.words.proofs.write.Laws.{written}
-use Rattle.requests.specs.Reply.{placeText}
-use Rattle.requests.proofs.reply.put_refused.Statement.{statement}
-use Rattle.requests.proofs.reply.put_refused.Tie as tie
+use Rattle.replies.specs.Replies.{placeText}
+use Rattle.replies.proofs.put_refused.Statement.{statement}
+use Rattle.replies.proofs.put_refused.Tie as tie
 
 slice-aggregate-put : tie.Need-slice-aggregate-put
 slice-aggregate-put c = search needs

@@ -3,7 +3,7 @@ ghost use mathlib.Core.Path.{_≡_};
 ghost use mathlib.Core.List.{_++_};
 ghost use Prim.Native.Nat.{_+_, _≤_};
 ghost use lib.ListN.{length, take};
-ghost use Rattle.requests.specs.Reply.{room, errorText, placeText, refusedText};
+ghost use Rattle.replies.specs.Replies.{room, errorText, placeText, refusedText};
 use arm::model::Model;
 use refusals::Place;
 use words::write::put;

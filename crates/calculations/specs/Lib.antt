@@ -1,0 +1,6 @@
+pub mod Calculation
+pub mod Column
+pub mod Make
+pub mod Read
+pub mod Request
+pub mod Write

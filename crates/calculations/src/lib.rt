@@ -1,0 +1,7 @@
+// The requests of `desk` that make a calculation, and `column`.
+pub mod calculation;
+pub mod column;
+pub mod make;
+pub mod read;
+pub mod request;
+pub mod write;

@@ -1,0 +1,189 @@
+// A calculation made on lent buffers: whole or in portions, once, many times, or from a position that is handed in.
+ghost use mathlib.Core.Path.{_≡_};
+ghost use Prim.Native.Nat.{_≤_};
+ghost use lib.ListN.{length};
+ghost use Rattle.calculations.specs.Calculation.{workOf, inputsBy};
+ghost use Rattle.calculations.specs.Make.{inPortions, onceOf, timesOf, madeOf, madeBy};
+use crate::calculation;
+use crate::calculation::Calculation;
+use arm::model::Model;
+use calls::position::Answer;
+use calls::position::Position;
+
+// So many times on the same buffers, or the portions alone, from this position.
+pub enum How {
+    Times(u64),
+    From(Position),
+}
+
+// How many counts there are, and the answer of the last call.
+pub struct Last {
+    pub counts: usize,
+    pub answer: Answer,
+}
+
+// A portion for each budget.
+fn portions<'a>(
+    from: Answer,
+    c: Calculation,
+    m: Model,
+    q: &'a [f64],
+    qd: &'a [f64],
+    forces: &'a [f64],
+    loaded: &'a [u64],
+    loads: &'a [f64],
+    budgets: &'a [u64],
+    counts: &mut [u64],
+    ws: &mut [f64],
+    out: &mut [f64],
+) -> Last
+    requires { ⌜ (length (now budgets) ≤ 4096) × (length (now counts) ≡ 4096) ⌝ }
+    ensures { λ r. ⌜ (madeBy r (now (counts .exit)) (now (ws .exit)) (now (out .exit)) ≡ inPortions (workOf c m (inputsBy (now (q .entry)) (now (qd .entry)) (now (forces .entry)) (now (loaded .entry)) (now (loads .entry)))) (now (budgets .entry)) (from, now (ws .entry), now (out .entry))) × (r .counts ≤ length (now (counts .exit))) × (length (now (counts .exit)) ≡ length (now (counts .entry))) ⌝ }
+{
+    let mut answer = from;
+    let mut k = 0;
+    while k < budgets.len() {
+        let position = answer.position;
+        let budget = budgets[k] as usize;
+        answer = calculation::portion(
+            position,
+            c,
+            m,
+            q,
+            qd,
+            forces,
+            loaded,
+            loads,
+            ws,
+            out,
+            budget,
+        );
+        counts[k] = answer.visits as u64;
+        k += 1;
+    }
+    Last { counts: k, answer }
+}
+
+// Where no budget is given, the undivided call; else a start, and where that is not refused its portions.
+fn once<'a>(
+    c: Calculation,
+    m: Model,
+    q: &'a [f64],
+    qd: &'a [f64],
+    forces: &'a [f64],
+    loaded: &'a [u64],
+    loads: &'a [f64],
+    budgets: &'a [u64],
+    counts: &mut [u64],
+    ws: &mut [f64],
+    out: &mut [f64],
+) -> Last
+    requires { ⌜ (length (now budgets) ≤ 4096) × (length (now counts) ≡ 4096) ⌝ }
+    ensures { λ r. ⌜ (madeBy r (now (counts .exit)) (now (ws .exit)) (now (out .exit)) ≡ onceOf (workOf c m (inputsBy (now (q .entry)) (now (qd .entry)) (now (forces .entry)) (now (loaded .entry)) (now (loads .entry)))) (now (budgets .entry)) (now (ws .entry)) (now (out .entry))) × (r .counts ≤ length (now (counts .exit))) × (length (now (counts .exit)) ≡ length (now (counts .entry))) ⌝ }
+{
+    if budgets.len() == 0 {
+        let answer = calculation::whole(c, m, q, qd, forces, loaded, loads, ws, out);
+        counts[0] = answer.visits as u64;
+        return Last { counts: 1, answer };
+    }
+    let begun = calculation::start(c, m, q, qd, forces, loaded, loads, ws, out);
+    let position = begun.position;
+    if position.closed {
+        return Last {
+            counts: 0,
+            answer: begun,
+        };
+    }
+    portions(
+        begun,
+        c,
+        m,
+        q,
+        qd,
+        forces,
+        loaded,
+        loads,
+        budgets,
+        counts,
+        ws,
+        out,
+    )
+}
+
+fn times<'a>(
+    count: u64,
+    c: Calculation,
+    m: Model,
+    q: &'a [f64],
+    qd: &'a [f64],
+    forces: &'a [f64],
+    loaded: &'a [u64],
+    loads: &'a [f64],
+    budgets: &'a [u64],
+    counts: &mut [u64],
+    ws: &mut [f64],
+    out: &mut [f64],
+) -> Last
+    requires { ⌜ (length (now budgets) ≤ 4096) × (length (now counts) ≡ 4096) ⌝ }
+    ensures { λ r. ⌜ (madeBy r (now (counts .exit)) (now (ws .exit)) (now (out .exit)) ≡ timesOf (workOf c m (inputsBy (now (q .entry)) (now (qd .entry)) (now (forces .entry)) (now (loaded .entry)) (now (loads .entry)))) (now (budgets .entry)) count (now (ws .entry)) (now (out .entry))) × (r .counts ≤ length (now (counts .exit))) × (length (now (counts .exit)) ≡ length (now (counts .entry))) ⌝ }
+{
+    let mut last = once(c, m, q, qd, forces, loaded, loads, budgets, counts, ws, out);
+    let mut left = count;
+    while 1 < left {
+        last = once(c, m, q, qd, forces, loaded, loads, budgets, counts, ws, out);
+        left -= 1;
+    }
+    last
+}
+
+pub fn make<'a>(
+    how: How,
+    c: Calculation,
+    m: Model,
+    q: &'a [f64],
+    qd: &'a [f64],
+    forces: &'a [f64],
+    loaded: &'a [u64],
+    loads: &'a [f64],
+    budgets: &'a [u64],
+    counts: &mut [u64],
+    ws: &mut [f64],
+    out: &mut [f64],
+) -> Last
+    requires { ⌜ (length (now budgets) ≤ 4096) × (length (now counts) ≡ 4096) ⌝ }
+    ensures { λ r. ⌜ (madeBy r (now (counts .exit)) (now (ws .exit)) (now (out .exit)) ≡ madeOf how (workOf c m (inputsBy (now (q .entry)) (now (qd .entry)) (now (forces .entry)) (now (loaded .entry)) (now (loads .entry)))) (now (budgets .entry)) (now (ws .entry)) (now (out .entry))) × (r .counts ≤ length (now (counts .exit))) × (length (now (counts .exit)) ≡ length (now (counts .entry))) ⌝ }
+{
+    match how {
+        How::Times(count) => times(
+            count,
+            c,
+            m,
+            q,
+            qd,
+            forces,
+            loaded,
+            loads,
+            budgets,
+            counts,
+            ws,
+            out,
+        ),
+        How::From(position) => {
+            let from = position.begun();
+            portions(
+                from,
+                c,
+                m,
+                q,
+                qd,
+                forces,
+                loaded,
+                loads,
+                budgets,
+                counts,
+                ws,
+                out,
+            )
+        }
+    }
+}
