@@ -6,7 +6,7 @@
  * It reads the same lines as `desk` (docs/CASES.md) and writes the same answers, so that bits can be compared before anything is timed. It takes
  * `model`, the four calculations with no portions, and `repeat`; any other line is an `error`. It makes no checks on `model`: those are not timed.
  *
- * cc -O2 -ffp-contract=off -o reference reference.c -lm
+ * cc -O3 -ffp-contract=off -o reference reference.c -lm
  */
 #include <math.h>
 #include <stdbool.h>
