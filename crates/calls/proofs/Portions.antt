@@ -1,45 +1,41 @@
--- Portions compose: whatever the budgets, the end is that of the undivided call. Assumes nothing.
+-- Portions compose: however the visits are divided, and whatever refused calls lie between, the end is that of the undivided call. Assumes nothing.
 use mathlib.Core.Bool.{Bool, true, false, true≢false}
 use mathlib.Core.List.{List, [], _∷_}
 use mathlib.Core.Logic.{_⊎_, inl, inr, ⊎-elim}
 use mathlib.Core.Path.{_≡_, refl, sym, ap, _∙_}
 use Prim.Native.Nat.{ℕ, zero, suc, _+_, _<_}
-use native.Mathlib.Nat.{add-zero}
+use native.Mathlib.Nat.{add-zero, sub-zero, eq-or-lt-of-le}
 use native.Mathlib.Omega.{arith}
 use borrow.Author.Tests.{eq-eqb, lt-leb}
 use lib.ListN.{length}
 use lib.Ieee.{Float}
 use Rattle.refusals.specs.Refusals.{plainOf, orElse}
+use Rattle.refusals.specs.declared.Place.{Place}
 use Rattle.refusals.specs.declared.Verdict.{Verdict}
 use Rattle.refusals.specs.declared.Verdict.the-variants.{Fine, Refused}
 use Rattle.refusals.proofs.Verdicts.{both-fine}
-use Rattle.numbers.proofs.Tables.{length-tab}
 use Rattle.slots.specs.Slots.{cleared}
-use Rattle.calls.specs.Position.{Work, State, Result, Sound, visitsOf, alike, fresh, positionVerdict, ended, advancedBy, closing, landed, stepBy, stepOf, iterate, opening, answerBy, begunAt, refusedAt, ran, unless, startOf, portionOf, wholeOf, portionsFrom, dividedOf, left}
+use Rattle.slots.proofs.Lengths.{length-cleared}
+use Rattle.calls.specs.Position.{Work, State, Result, visitsOf, alike, fresh, shut, positionVerdict, ended, advancedBy, closing, landed, stepOf, iterate, opening, answerBy, begunAt, refusedAt, ran, unless, startOf, checksOf, portionOf, wholeOf}
+use Rattle.calls.specs.Portions.{Sound, Call, portion, other, start, whole, keeping, answered, added, callsFrom, dividedOf, Refuses, RefusesAll, after, Undivided}
 use Rattle.calls.specs.declared.position.Outcome.{Outcome}
 use Rattle.calls.specs.declared.position.Outcome.the-variants.{Open, Accepted}
 use Rattle.calls.specs.declared.position.Outcome.the-variants as outcome
 use Rattle.calls.specs.declared.position.Position.{Position}
 use Rattle.calls.specs.declared.position.Progress.{Progress}
 use Rattle.calls.proofs.Passed.{still-open}
-use Rattle.calls.proofs.Steps.{visits, closed, step-open, run-closed}
-
-unfoldable sum : List ℕ → ℕ
-sum [] = 0
-sum (b ∷ more) = b + sum more
+use Rattle.calls.proofs.Steps.{visits, closed, iterate-add, step-open, run-closed, run-forth, run-most, run-exact, same-end}
 
 alike-self : (b : Bool) → alike b b ≡ true
 alike-self true = refl
 alike-self false = refl
 
-iterate-add : {S : Type 0} (f : S → S) (j k : ℕ) (s : S) → iterate f (j + k) s ≡ iterate f k (iterate f j s)
-unfolding iterate
-iterate-add f zero k s = let e : 0 + k ≡ k = omega arith in rw e
-iterate-add f (suc j) k s = let e : suc j + k ≡ suc (j + k) = omega arith in rw e (iterate-add f j k (f s))
+some-visit : (matrix : Bool) (n a : ℕ) → 0 < visitsOf matrix n a
+unfolding visitsOf
+some-visit true n a = omega arith
+some-visit false n a = omega arith
 
--- what is left of a state
-abbrev of : State → Position × List Float × List Float
-of s = (s .0 .position, s .1, s .2)
+-- ---- the visits of a calculation
 
 module _ (w : Work) (sound : Sound w) where
   abbrev total : ℕ
@@ -56,32 +52,42 @@ module _ (w : Work) (sound : Sound w) where
     pub output : length (s .2) ≡ m
     pub more : k < total
 
-  -- one visit closes, or leaves such a state
-  step-at : (s : State) (k l m : ℕ) → At s k l m → (closed (stepOf w s) ≡ true) ⊎ At (stepOf w s) (k + 1) l m
+  -- a closed one
+  pub record Ended (s : State) : Type 0 where
+    pub closes : closed s ≡ true
+    pub accepted : s .0 .outcome ≡ Accepted → visits s ≡ total
+
+  -- one visit closes, or leaves an open state
+  step-at : (s : State) (k l m : ℕ) → At s k l m → Ended (stepOf w s) ⊎ At (stepOf w s) (k + 1) l m
   unfolding advancedBy ended closing
-  step-at s k l m t = rw (step-open (w .visit) (w .results) s (ap (λ (p : Progress). p .position .closed) (t .place))) (go (w .visit (visits s) (s .1)) (sound .ends (visits s) (s .1)) (sound .kept (visits s) (s .1)))
+  step-at s k l m t =
+      rw (step-open (w .visit) (w .results) s (ap (λ (p : Progress). p .position .closed) (t .place)))
+      (go (w .visit (visits s) (s .1)) (sound .kept (visits s) (s .1)) (sound .ends (visits s) (s .1)) (sound .waits (visits s) (s .1)))
     where
       same : visits s ≡ k
       same = ap (λ (p : Progress). p .position .visits) (t .place)
 
-      go : (e : Outcome × List Float) → (ended (e .0) ≡ false → visits s + 1 < total) → length (e .1) ≡ length (s .1)
-          → (closed (landed (w .results) s e) ≡ true) ⊎ At (landed (w .results) s e) (k + 1) l m
-      go (Open, ws) f g = inr (record {
+      last : (visits s + 1 ≡ total) ⊎ (visits s + 1 < total)
+      last = eq-or-lt-of-le (omega (arith, t .more, same))
+
+      go : (e : Outcome × List Float) → length (e .1) ≡ length (s .1) → (visits s + 1 ≡ total → ended (e .0) ≡ true) → (visits s + 1 < total → e .0 ≡ Accepted → ⊥)
+          → Ended (landed (w .results) s e) ⊎ At (landed (w .results) s e) (k + 1) l m
+      go (Open, ws) g f h = inr (record {
         place = ap (λ (p : Progress). advancedBy (p .position) Open) (t .place);
         room = g ∙ t .room;
         output = t .output;
-        more = omega (arith, f refl, same);
+        more = ⊎-elim (λ e. absurd (true≢false (sym (f e)))) (λ e. omega (arith, same)) last;
       })
-      go (Accepted, ws) f g = inl refl
-      go (outcome.Refused number i, ws) f g = inl refl
+      go (Accepted, ws) g f h = inl (record { closes = refl; accepted = λ _. ⊎-elim (λ e. e) (λ e. absurd (h e refl)) last })
+      go (outcome.Refused number i, ws) g f h = inl (record { closes = refl; accepted = λ e. let z : _≡_ {A = ℕ} 0 1 = cc in absurd (omega arith) })
 
   -- so many visits end closed, or at such a state
-  run-at : (j : ℕ) (s : State) (k l m : ℕ) → At s k l m → (closed (iterate (stepOf w) j s) ≡ true) ⊎ At (iterate (stepOf w) j s) (k + j) l m
+  run-at : (j : ℕ) (s : State) (k l m : ℕ) → At s k l m → Ended (iterate (stepOf w) j s) ⊎ At (iterate (stepOf w) j s) (k + j) l m
   unfolding iterate
   run-at zero s k l m t = inr (rw add-zero t)
   run-at (suc j) s k l m t =
       ⊎-elim
-      (λ c. inl (rw (run-closed (w .visit) (w .results) j (stepOf w s) c) c))
+      (λ c. inl (rw (run-closed (w .visit) (w .results) j (stepOf w s) (c .closes)) c))
       (λ u. let e : k + suc j ≡ k + 1 + j = omega arith in rw e (run-at j (stepOf w s) (k + 1) l m u))
       (step-at s k l m t)
 
@@ -95,66 +101,181 @@ module _ (w : Work) (sound : Sound w) where
     unfolding portionOf orElse
     portion-open b s k t = rw (t .place, t .room, t .output, fine, judged-open k (t .more))
 
-    -- a closed position is refused, and everything comes back
-    portion-closed : (b : ℕ) (p : Position) (ws out : List Float) → p .closed ≡ true → left (portionOf w b p ws out) ≡ (p, ws, out)
-    unfolding portionOf refusedAt
-    portion-closed b p ws out c =
-        back (orElse (w .inputs (length ws) (length out)) (positionVerdict (w .matrix) (w .floating) (w .n) (w .a) p)) (ran w b p ws out)
-        (λ e. absurd (true≢false (sym c ∙ still-open (w .matrix) (w .floating) (w .n) (w .a) p (both-fine _ _ e .1) .0)))
-      where
-        back : (v : Verdict) (r : Result) → (v ≡ Fine → ⊥) → left (unless v p ws out r) ≡ (p, ws, out)
-        back Fine r f = absurd (f refl)
-        back (Refused number i) r f = refl
+-- ---- a refused call hands everything back
 
-    -- a portion moves what is left as its budget moves the state
-    portion-moves : (b : ℕ) (s : State) → (closed s ≡ true) ⊎ ((k : ℕ) × At s k l m) → left (portionOf w b (s .0 .position) (s .1) (s .2)) ≡ of (iterate (stepOf w) b s)
+abbrev Untouched : Position → List Float → List Float → Result → Type 0
+Untouched p ws out r = (number : ℕ) × (i : Place) × (r ≡ (refusedAt p number i, ws, out))
+
+back : (v : Verdict) (p : Position) (ws out : List Float) (r : Result) → (v ≡ Fine → ⊥) → Untouched p ws out (unless v p ws out r)
+back Fine p ws out r f = absurd (f refl)
+back (Refused number i) p ws out r f = (number, i, refl)
+
+kept-back : (v : Verdict) (p q : Position) (ws out : List Float) (r : Result) → (v ≡ Fine → ⊥) → Untouched p ws out (keeping p (unless v q ws out r))
+unfolding refusedAt
+kept-back Fine p q ws out r f = absurd (f refl)
+kept-back (Refused number i) p q ws out r f = (number, i, refl)
+
+module _ (w : Work) where
+  -- a portion on a closed position is refused
+  portion-closed : (b : ℕ) (p : Position) (ws out : List Float) → p .closed ≡ true → Untouched p ws out (portionOf w b p ws out)
+  unfolding portionOf
+  portion-closed b p ws out c =
+      back (checksOf w p (length ws) (length out)) p ws out (ran w b p ws out)
+      (λ e. absurd (true≢false (sym c ∙ still-open (w .matrix) (w .floating) (w .n) (w .a) p (both-fine _ _ e .1) .0)))
+
+  -- and so is any call that may lie between the portions
+  call-refused : (c : Call) (r : Result) → Refuses c r → ((b : ℕ) × (c ≡ portion b)) ⊎ Untouched (r .0 .position) (r .1) (r .2) (answered w c r)
+  unfolding Refuses answered portionOf startOf wholeOf
+  call-refused (portion b) r h = inl (b, refl)
+  call-refused (other v b) r h = inr (back (checksOf v (r .0 .position) (length (r .1)) (length (r .2))) (r .0 .position) (r .1) (r .2) _ h)
+  call-refused (start v) r h = inr (kept-back (v .inputs (length (r .1)) (length (r .2))) (r .0 .position) (shut v) (r .1) (r .2) _ h)
+  call-refused (whole v) r h = inr (kept-back (v .inputs (length (r .1)) (length (r .2))) (r .0 .position) (shut v) (r .1) (r .2) _ h)
+
+-- and on a closed position nothing is added
+added-closed : (r s : Result) → r .0 .position .closed ≡ true → Untouched (r .0 .position) (r .1) (r .2) s → added r s ≡ r
+unfolding refusedAt
+added-closed r s c (number, i, e) = rw (e, c, add-zero)
+
+-- ---- calls in a row
+
+-- what is left of a state
+abbrev of : State → Position × List Float × List Float
+of s = (s .0 .position, s .1, s .2)
+
+abbrev left : Result → Position × List Float × List Float
+left r = (r .0 .position, r .1, r .2)
+
+-- the calls so far have brought a calculation to a state
+pub record Stands (r : Result) (s : State) : Type 0 where
+  pub hands : left r ≡ of s
+  pub count : r .0 .visits ≡ visits s
+  pub outcome : closed s ≡ true → r .0 .outcome ≡ s .0 .outcome
+
+refused-stands : (r x : Result) (s : State) → Stands r s → Untouched (r .0 .position) (r .1) (r .2) x → Stands (added r x) s
+unfolding refusedAt
+refused-stands r x s t (number, i, e) = record {
+  hands = ap left e ∙ t .hands;
+  count = omega (arith, t .count, ap (λ (y : Result). y .0 .visits) e);
+  outcome = λ c. rw (ap (λ (y : Position × List Float × List Float). y .0 .closed) (t .hands) ∙ c) (t .outcome c);
+}
+
+-- all that they answered, where that state is closed
+stands-closed : (r : Result) (s : State) → Stands r s → closed s ≡ true → r ≡ (record { position = s .0 .position; outcome = s .0 .outcome; visits = visits s }, s .1, s .2)
+stands-closed r s t c = λ i. (record { position = t .hands i .0; outcome = t .outcome c i; visits = t .count i }, t .hands i .1, t .hands i .2)
+
+module _ (w : Work) (sound : Sound w) (l m : ℕ) (fine : w .inputs l m ≡ Fine) where
+  -- where a run stands after k visits, or ended before
+  abbrev Reached : State → ℕ → Type 0
+  Reached s k = Ended w sound s ⊎ At w sound s k l m
+
+  module _ (r : Result) (s : State) (k : ℕ) (t : Stands r s) where
+    portion-stands : (b : ℕ) → Reached s k → Stands (added r (portionOf w b (r .0 .position) (r .1) (r .2))) (iterate (stepOf w) b s)
     unfolding answerBy
-    portion-moves b s (inl c) = portion-closed b (s .0 .position) (s .1) (s .2) c ∙ ap of (sym (run-closed (w .visit) (w .results) b s c))
-    portion-moves b s (inr (k, t)) = ap left (portion-open b s k t) ∙ ap (λ (p : Progress). of (iterate (stepOf w) b (p, s .1, s .2))) (sym (t .place))
+    portion-stands b (inl c) =
+        rw (run-closed (w .visit) (w .results) b s (c .closes))
+        (refused-stands r _ s t (portion-closed w b (r .0 .position) (r .1) (r .2) (ap (λ (y : Position × List Float × List Float). y .0 .closed) (t .hands) ∙ c .closes)))
+    portion-stands b (inr u) =
+        rw (ap (λ (y : Position × List Float × List Float). portionOf w b (y .0) (y .1) (y .2)) (t .hands) ∙ portion-open w sound l m fine b s k u ∙ ap from (sym (u .place)))
+        (record {
+          hands = refl;
+          count = omega (arith, t .count, run-forth (w .visit) (w .results) b s);
+          outcome = λ c. rw (ap (λ (y : Position × List Float × List Float). y .0 .closed) (t .hands) ∙ ap (λ (p : Progress). p .position .closed) (u .place));
+        })
+      where
+        from : Progress → Result
+        from p = let x = iterate (stepOf w) b (p, s .1, s .2) in (answerBy (p .position) (x .0), x .1, x .2)
 
-    after : (b : ℕ) (s : State) → (closed s ≡ true) ⊎ ((k : ℕ) × At s k l m) → (closed (iterate (stepOf w) b s) ≡ true) ⊎ ((k : ℕ) × At (iterate (stepOf w) b s) k l m)
-    after b s (inl c) = inl (rw (run-closed (w .visit) (w .results) b s c) c)
-    after b s (inr (k, t)) = ⊎-elim (λ c. inl c) (λ u. inr (k + b, u)) (run-at b s k l m t)
-
-    portions-left : (bs : List ℕ) (r : Result) (s : State) → left r ≡ of s → (closed s ≡ true) ⊎ ((k : ℕ) × At s k l m) → left (portionsFrom w bs r) ≡ of (iterate (stepOf w) (sum bs) s)
-    unfolding portionsFrom iterate sum
-    portions-left [] r s e t = e
-    portions-left (b ∷ more) r s e t =
-        portions-left more (portionOf w b (r .0 .position) (r .1) (r .2)) (iterate (stepOf w) b s)
-        (ap (λ (x : Position × List Float × List Float). left (portionOf w b (x .0) (x .1) (x .2))) e ∙ portion-moves b s t) (after b s t)
-        ∙ ap of (sym (iterate-add (stepOf w) b (sum more) s))
-
--- two closed states of one run are the same
-same-end : (visit : ℕ → List Float → Outcome × List Float) (results i j : ℕ) (s : State) → closed (iterate (stepBy visit results) i s) ≡ true → closed (iterate (stepBy visit results) j s) ≡ true
-    → iterate (stepBy visit results) i s ≡ iterate (stepBy visit results) j s
-same-end visit results i j s c d =
-    let e : i + j ≡ j + i = omega arith in
-    sym (run-closed visit results j (iterate (stepBy visit results) i s) c)
-    ∙ sym (iterate-add (stepBy visit results) i j s)
-    ∙ ap (λ (k : ℕ). iterate (stepBy visit results) k s) e
-    ∙ iterate-add (stepBy visit results) j i s
-    ∙ run-closed visit results i (iterate (stepBy visit results) j s) d
-
-some-visit : (matrix : Bool) (n a : ℕ) → 0 < visitsOf matrix n a
-unfolding visitsOf
-some-visit true n a = omega arith
-some-visit false n a = omega arith
+    call-stands : (c : Call) → Refuses c r → Reached s k → (b : ℕ) × Stands (added r (answered w c r)) (iterate (stepOf w) b s)
+    unfolding answered iterate
+    call-stands c h e =
+        ⊎-elim
+        (λ (d : (b : ℕ) × (c ≡ portion b)). (d .0, rw (d .1) (portion-stands (d .0) e)))
+        (λ u. (0, refused-stands r (answered w c r) s t u))
+        (call-refused w c r h)
 
 module _ (w : Work) (sound : Sound w) (ws out : List Float) (fine : w .inputs (length ws) (length out) ≡ Fine) where
   abbrev first : State
   first = (opening (fresh w), cleared ws, out)
 
-  first-at : At w sound first 0 (length ws) (length out)
-  unfolding cleared
-  first-at = record { place = refl; room = length-tab _ (length ws); output = refl; more = some-visit (w .matrix) (w .n) (w .a) }
+  reached : (j : ℕ) → Reached w sound (length ws) (length out) fine (after w j ws out) j
+  reached j = ⊎-elim (λ c. inl c) (λ u. let e : 0 + j ≡ j = omega arith in inr (rw e at u)) (run-at w sound j first 0 (length ws) (length out) first-at)
+    where
+      first-at : At w sound first 0 (length ws) (length out)
+      first-at = record { place = refl; room = length-cleared ws; output = refl; more = some-visit (w .matrix) (w .n) (w .a) }
+
+  calls-stand : (calls : List Call) (r : Result) (j : ℕ) → RefusesAll w calls r → Stands r (after w j ws out) → (i : ℕ) × Stands (callsFrom w calls r) (after w i ws out)
+  unfolding callsFrom RefusesAll
+  calls-stand [] r j h t = (j, t)
+  calls-stand (c ∷ more) r j h t =
+      let d = call-stands w sound (length ws) (length out) fine r (after w j ws out) j t c (h .0) (reached j) in
+      calls-stand more (added r (answered w c r)) (j + d .0) (h .1) (rw (iterate-add (stepOf w) j (d .0) first) (d .1))
 
   -- the undivided call ends closed
-  whole-closed : closed (iterate (stepOf w) (visitsOf (w .matrix) (w .n) (w .a)) first) ≡ true
-  whole-closed = ⊎-elim (λ c. c) (λ t. let h = t .more in absurd (omega arith)) (run-at w sound (visitsOf (w .matrix) (w .n) (w .a)) first 0 (length ws) (length out) first-at)
+  whole-ended : Ended w sound (after w (total w sound) ws out)
+  whole-ended = ⊎-elim (λ c. c) (λ u. let h = u .more in absurd (omega arith)) (reached (total w sound))
 
-  -- DEMAND 3: however the visits are divided, once the position is closed it, the workspace and the output are those of the undivided call
-  pub undivided : (budgets : List ℕ) → dividedOf w budgets ws out .0 .position .closed ≡ true → left (dividedOf w budgets ws out) ≡ left (wholeOf w ws out)
-  unfolding startOf wholeOf begunAt answerBy
-  undivided budgets c =
-      let e = portions-left w sound (length ws) (length out) fine budgets (startOf w ws out) first (rw fine) (inr (0, first-at)) in
-      e ∙ ap of (same-end (w .visit) (w .results) (sum budgets) (visitsOf (w .matrix) (w .n) (w .a)) first (ap (λ (x : Position × List Float × List Float). x .0 .closed) (sym e) ∙ c) whole-closed) ∙ rw fine
+  ends-undivided : (r : Result) (j : ℕ) → Stands r (after w j ws out) → r .0 .position .closed ≡ true → Undivided w ws out r
+  unfolding wholeOf answerBy
+  ends-undivided r j t c = record { same = same; before = before; accepted = accepted }
+    where
+      end : after w j ws out ≡ after w (total w sound) ws out
+      end = same-end (w .visit) (w .results) j (total w sound) first (ap (λ (y : Position × List Float × List Float). y .0 .closed) (sym (t .hands)) ∙ c) (whole-ended .closes)
+
+      ended-so : Stands r (after w (total w sound) ws out)
+      ended-so = rw end at t
+
+      same : r ≡ wholeOf w ws out
+      same = stands-closed r (after w (total w sound) ws out) ended-so (whole-ended .closes) ∙ rw (fine, sub-zero)
+
+      before : (k : ℕ) → k < r .0 .visits → closed (after w k ws out) ≡ false
+      before k h = go (closed (after w k ws out)) refl
+        where
+          go : (b : Bool) → closed (after w k ws out) ≡ b → b ≡ false
+          go true e =
+              let d = ap visits (same-end (w .visit) (w .results) k (total w sound) first e (whole-ended .closes)) in
+              absurd (omega (arith, ended-so .count, run-most (w .visit) (w .results) k first))
+          go false e = refl
+
+      accepted : r .0 .outcome ≡ Accepted → r .0 .visits ≡ total w sound
+      accepted e = ended-so .count ∙ whole-ended .accepted (sym (ended-so .outcome (whole-ended .closes)) ∙ e)
+
+  stands : (calls : List Call) → RefusesAll w calls (startOf w ws out) → (j : ℕ) × Stands (dividedOf w calls ws out) (after w j ws out)
+  unfolding startOf begunAt iterate
+  stands calls h = calls-stand calls (startOf w ws out) 0 h (rw fine (record { hands = refl; count = refl; outcome = λ b. absurd (true≢false (sym b)) }))
+
+  started-undivided : (calls : List Call) → RefusesAll w calls (startOf w ws out) → dividedOf w calls ws out .0 .position .closed ≡ true → Undivided w ws out (dividedOf w calls ws out)
+  started-undivided calls h c = let d = stands calls h in ends-undivided (dividedOf w calls ws out) (d .0) (d .1) c
+
+  -- DEMAND 3, under way: after k visits in all, position, workspace and output are the definition's after k
+  pub underway : (calls : List Call) → RefusesAll w calls (startOf w ws out) → left (dividedOf w calls ws out) ≡ of (after w (dividedOf w calls ws out .0 .visits) ws out)
+  underway calls h =
+      let d = stands calls h in
+      let (k, e, v) = run-exact (w .visit) (w .results) (d .0) first in
+      let f : dividedOf w calls ws out .0 .visits ≡ k = omega (arith, d .1 .count, v) in
+      d .1 .hands ∙ ap of e ∙ rw f
+
+-- ---- a start that was refused
+
+-- on a closed position every call is refused, and nothing is added
+closed-stays : (w : Work) (calls : List Call) (r : Result) → r .0 .position .closed ≡ true → RefusesAll w calls r → callsFrom w calls r ≡ r
+unfolding callsFrom RefusesAll answered
+closed-stays w [] r c h = refl
+closed-stays w (d ∷ more) r c h =
+    let e = added-closed r (answered w d r) c (⊎-elim (λ (p : (b : ℕ) × (d ≡ portion b)). rw (p .1) (portion-closed w (p .0) (r .0 .position) (r .1) (r .2) c)) (λ u. u) (call-refused w d r (h .0))) in
+    ap (callsFrom w more) e ∙ closed-stays w more r c (rw e at (h .1))
+
+refused-undivided : (w : Work) (ws out : List Float) (number : ℕ) (i : Place) → w .inputs (length ws) (length out) ≡ Refused number i → Undivided w ws out (startOf w ws out)
+unfolding startOf wholeOf refusedAt
+refused-undivided w ws out number i e =
+    rw e (record { same = rw e; before = λ k h. absurd (omega arith); accepted = λ a. let z : _≡_ {A = ℕ} 0 1 = cc in absurd (omega arith) })
+
+-- DEMAND 3: once the position is closed, portions of any budgets, with any refused calls between them, have answered together what the undivided
+-- call answers on the same buffers, and left what it leaves
+pub undivided : (w : Work) → Sound w → (ws out : List Float) (calls : List Call) → RefusesAll w calls (startOf w ws out) → dividedOf w calls ws out .0 .position .closed ≡ true
+    → Undivided w ws out (dividedOf w calls ws out)
+unfolding startOf refusedAt
+undivided w sound ws out calls h c = go (w .inputs (length ws) (length out)) refl
+  where
+    go : (v : Verdict) → w .inputs (length ws) (length out) ≡ v → Undivided w ws out (dividedOf w calls ws out)
+    go Fine e = started-undivided w sound ws out e calls h c
+    go (Refused number i) e = rw (closed-stays w calls (startOf w ws out) (rw e) h) (refused-undivided w ws out number i e)

@@ -1,8 +1,7 @@
 -- A calculation in visits: where it stands, its portions, how it closes (document 01, "Visits"). Definitions only.
 use mathlib.Core.Bool.{Bool, true, false, not, cond, _&&_}
-use mathlib.Core.List.{List, [], _∷_}
-use mathlib.Core.Path.{_≡_}
-use Prim.Native.Nat.{ℕ, zero, suc, _+_, _-_, _<_}
+use mathlib.Core.List.{List}
+use Prim.Native.Nat.{ℕ, zero, suc, _+_, _-_}
 use lib.Dec.{eqb, leb}
 use lib.ListN.{length}
 use lib.Ieee.{Float}
@@ -134,30 +133,14 @@ unless (verdict.Refused number i) p ws out r = (refusedAt p number i, ws, out)
 unfoldable pub startOf : Work → List Float → List Float → Result
 startOf w ws out = unless (w .inputs (length ws) (length out)) (shut w) ws out (begunAt (fresh w), cleared ws, out)
 
--- a portion repeats them, judges the position, and makes as many visits as it may
+-- a portion repeats them and judges the position
+abbrev pub checksOf : Work → Position → ℕ → ℕ → Verdict
+checksOf w p ws out = orElse (w .inputs ws out) (positionVerdict (w .matrix) (w .floating) (w .n) (w .a) p)
+
+-- and makes as many visits as it may
 unfoldable pub portionOf : Work → ℕ → Position → List Float → List Float → Result
-portionOf w budget p ws out =
-    unless (orElse (w .inputs (length ws) (length out)) (positionVerdict (w .matrix) (w .floating) (w .n) (w .a) p)) p ws out (ran w budget p ws out)
+portionOf w budget p ws out = unless (checksOf w p (length ws) (length out)) p ws out (ran w budget p ws out)
 
 -- the undivided call starts and makes all visits
 unfoldable pub wholeOf : Work → List Float → List Float → Result
 wholeOf w ws out = unless (w .inputs (length ws) (length out)) (shut w) ws out (ran w (visitsOf (w .matrix) (w .n) (w .a)) (fresh w) (cleared ws) out)
-
--- ---- a calculation in portions
-
--- portions in a row, each on the position and the buffers that the one before handed back
-unfoldable pub portionsFrom : Work → List ℕ → Result → Result
-portionsFrom w [] r = r
-portionsFrom w (budget ∷ more) r = portionsFrom w more (portionOf w budget (r .0 .position) (r .1) (r .2))
-
-abbrev pub dividedOf : Work → List ℕ → List Float → List Float → Result
-dividedOf w budgets ws out = portionsFrom w budgets (startOf w ws out)
-
--- what a call leaves behind: the position, the workspace and the output
-abbrev pub left : Result → Position × List Float × List Float
-left r = (r .0 .position, r .1, r .2)
-
--- a calculation whose visits keep the workspace's length, and of which only those before the last leave the position open
-pub record Sound (w : Work) : Type 0 where
-  pub kept : (k : ℕ) (ws : List Float) → length (w .visit k ws .1) ≡ length ws
-  pub ends : (k : ℕ) (ws : List Float) → ended (w .visit k ws .0) ≡ false → k + 1 < visitsOf (w .matrix) (w .n) (w .a)

@@ -1,0 +1,87 @@
+-- A calculation divided into portions, with refused calls between them (document 01, "Visits"). Definitions only.
+use mathlib.Core.Bool.{false, true, cond}
+use mathlib.Core.List.{List, [], _∷_}
+use mathlib.Core.Path.{_≡_}
+use Prim.{Unit}
+use Prim.Native.Nat.{ℕ, _+_, _<_}
+use lib.ListN.{length}
+use lib.Ieee.{Float}
+use Rattle.refusals.specs.declared.Verdict.the-variants.{Fine}
+use Rattle.slots.specs.Slots.{cleared}
+use Rattle.calls.specs.Position.{Work, State, Result, visitsOf, fresh, ended, stepOf, iterate, opening, checksOf, startOf, portionOf, wholeOf}
+use Rattle.calls.specs.declared.position.Outcome.the-variants.{Accepted}
+use Rattle.calls.specs.declared.position.Position.{Position}
+
+-- a calculation whose visits keep the workspace's length, whose last visit closes the position, and of which no earlier one accepts
+pub record Sound (w : Work) : Type 0 where
+  pub kept : (k : ℕ) (ws : List Float) → length (w .visit k ws .1) ≡ length ws
+  pub ends : (k : ℕ) (ws : List Float) → k + 1 ≡ visitsOf (w .matrix) (w .n) (w .a) → ended (w .visit k ws .0) ≡ true
+  pub waits : (k : ℕ) (ws : List Float) → k + 1 < visitsOf (w .matrix) (w .n) (w .a) → w .visit k ws .0 ≡ Accepted → ⊥
+
+-- ---- calls in a row
+
+-- One of the calls after a start: a portion of the calculation, with its budget; or a portion, a start or an undivided call of any
+-- calculation, on any model and inputs.
+pub data Call : Type 0 where
+  portion : ℕ → Call
+  other : Work → ℕ → Call
+  start : Work → Call
+  whole : Work → Call
+
+-- a start and an undivided call take no position, so the one in hand stays
+abbrev pub keeping : Position → Result → Result
+keeping p r = (record { position = p; outcome = r .0 .outcome; visits = r .0 .visits }, r .1, r .2)
+
+-- a call on the position and the buffers in hand
+unfoldable pub answered : Work → Call → Result → Result
+answered w (portion budget) r = portionOf w budget (r .0 .position) (r .1) (r .2)
+answered w (other v budget) r = portionOf v budget (r .0 .position) (r .1) (r .2)
+answered w (start v) r = keeping (r .0 .position) (startOf v (r .1) (r .2))
+answered w (whole v) r = keeping (r .0 .position) (wholeOf v (r .1) (r .2))
+
+-- what the calls so far and the next one answer together: their visits add up, and the outcome is that of the call that closed the position
+abbrev pub added : Result → Result → Result
+added r s = (
+  record {
+    position = s .0 .position;
+    outcome = cond (r .0 .position .closed) (r .0 .outcome) (s .0 .outcome);
+    visits = r .0 .visits + s .0 .visits;
+  },
+  s .1,
+  s .2,
+)
+
+-- each call on what the one before handed back
+unfoldable pub callsFrom : Work → List Call → Result → Result
+callsFrom w [] r = r
+callsFrom w (c ∷ more) r = callsFrom w more (added r (answered w c r))
+
+abbrev pub dividedOf : Work → List Call → List Float → List Float → Result
+dividedOf w calls ws out = callsFrom w calls (startOf w ws out)
+
+-- 9 to 24 refuse a call that is not a portion of the calculation
+unfoldable pub Refuses : Call → Result → Type 0
+Refuses (portion budget) r = Unit {0}
+Refuses (other v budget) r = checksOf v (r .0 .position) (length (r .1)) (length (r .2)) ≡ Fine → ⊥
+Refuses (start v) r = v .inputs (length (r .1)) (length (r .2)) ≡ Fine → ⊥
+Refuses (whole v) r = v .inputs (length (r .1)) (length (r .2)) ≡ Fine → ⊥
+
+-- and so every such call in a row
+unfoldable pub RefusesAll : Work → List Call → Result → Type 0
+RefusesAll w [] r = Unit {0}
+RefusesAll w (c ∷ more) r = Refuses c r × RefusesAll w more (added r (answered w c r))
+
+-- ---- how they end
+
+-- the calculation after k visits
+abbrev pub after : Work → ℕ → List Float → List Float → State
+after w k ws out = iterate (stepOf w) k (opening (fresh w), cleared ws, out)
+
+-- calls in a row that have ended as the undivided call does
+pub record Undivided (w : Work) (ws out : List Float) (r : Result) : Type 0 where
+  -- position, outcome, visits, workspace and output
+  pub same : r ≡ wholeOf w ws out
+  -- the last of the visits is the one that closed the position
+  pub before : (k : ℕ) → k < r .0 .visits → after w k ws out .0 .position .closed ≡ false
+  -- acceptance comes after the whole count
+  pub accepted : r .0 .outcome ≡ Accepted → r .0 .visits ≡ visitsOf (w .matrix) (w .n) (w .a)
