@@ -17,7 +17,7 @@ use Rattle.refusals.proofs.Verdicts.{both-fine}
 use Rattle.slots.specs.Slots.{cleared}
 use Rattle.slots.proofs.Lengths.{length-cleared}
 use Rattle.calls.specs.Position.{Work, State, Result, visitsOf, alike, fresh, shut, positionVerdict, ended, advancedBy, closing, landed, stepOf, iterate, opening, answerBy, begunAt, refusedAt, ran, unless, startOf, checksOf, portionOf, wholeOf}
-use Rattle.calls.specs.Portions.{Sound, Call, portion, other, start, whole, keeping, answered, added, callsFrom, dividedOf, Refuses, RefusesAll, after, Undivided}
+use Rattle.calls.specs.Portions.{Sound, Call, portion, other, start, whole, keeping, answered, added, callsFrom, dividedOf, Refuses, RefusesAll, after, handed, held, Underway, Undivided}
 use Rattle.calls.specs.declared.position.Outcome.{Outcome}
 use Rattle.calls.specs.declared.position.Outcome.the-variants.{Open, Accepted}
 use Rattle.calls.specs.declared.position.Outcome.the-variants as outcome
@@ -138,25 +138,21 @@ added-closed r s c (number, i, e) = rw (e, c, add-zero)
 
 -- ---- calls in a row
 
--- what is left of a state
-abbrev of : State → Position × List Float × List Float
-of s = (s .0 .position, s .1, s .2)
-
-abbrev left : Result → Position × List Float × List Float
-left r = (r .0 .position, r .1, r .2)
-
 -- the calls so far have brought a calculation to a state
 pub record Stands (r : Result) (s : State) : Type 0 where
-  pub hands : left r ≡ of s
+  pub hands : handed r ≡ held s
   pub count : r .0 .visits ≡ visits s
   pub outcome : closed s ≡ true → r .0 .outcome ≡ s .0 .outcome
+
+closed-alike : {r : Result} {s : State} → Stands r s → r .0 .position .closed ≡ closed s
+closed-alike t = ap (λ (y : Position × List Float × List Float). y .0 .closed) (t .hands)
 
 refused-stands : (r x : Result) (s : State) → Stands r s → Untouched (r .0 .position) (r .1) (r .2) x → Stands (added r x) s
 unfolding refusedAt
 refused-stands r x s t (number, i, e) = record {
-  hands = ap left e ∙ t .hands;
+  hands = ap handed e ∙ t .hands;
   count = omega (arith, t .count, ap (λ (y : Result). y .0 .visits) e);
-  outcome = λ c. rw (ap (λ (y : Position × List Float × List Float). y .0 .closed) (t .hands) ∙ c) (t .outcome c);
+  outcome = λ c. rw (closed-alike t ∙ c) (t .outcome c);
 }
 
 -- all that they answered, where that state is closed
@@ -173,13 +169,13 @@ module _ (w : Work) (sound : Sound w) (l m : ℕ) (fine : w .inputs l m ≡ Fine
     unfolding answerBy
     portion-stands b (inl c) =
         rw (run-closed (w .visit) (w .results) b s (c .closes))
-        (refused-stands r _ s t (portion-closed w b (r .0 .position) (r .1) (r .2) (ap (λ (y : Position × List Float × List Float). y .0 .closed) (t .hands) ∙ c .closes)))
+        (refused-stands r _ s t (portion-closed w b (r .0 .position) (r .1) (r .2) (closed-alike t ∙ c .closes)))
     portion-stands b (inr u) =
         rw (ap (λ (y : Position × List Float × List Float). portionOf w b (y .0) (y .1) (y .2)) (t .hands) ∙ portion-open w sound l m fine b s k u ∙ ap from (sym (u .place)))
         (record {
           hands = refl;
           count = omega (arith, t .count, run-forth (w .visit) (w .results) b s);
-          outcome = λ c. rw (ap (λ (y : Position × List Float × List Float). y .0 .closed) (t .hands) ∙ ap (λ (p : Progress). p .position .closed) (u .place));
+          outcome = λ c. rw (closed-alike t ∙ ap (λ (p : Progress). p .position .closed) (u .place));
         })
       where
         from : Progress → Result
@@ -219,7 +215,7 @@ module _ (w : Work) (sound : Sound w) (ws out : List Float) (fine : w .inputs (l
   ends-undivided r j t c = record { same = same; before = before; accepted = accepted }
     where
       end : after w j ws out ≡ after w (total w sound) ws out
-      end = same-end (w .visit) (w .results) j (total w sound) first (ap (λ (y : Position × List Float × List Float). y .0 .closed) (sym (t .hands)) ∙ c) (whole-ended .closes)
+      end = same-end (w .visit) (w .results) j (total w sound) first (sym (closed-alike t) ∙ c) (whole-ended .closes)
 
       ended-so : Stands r (after w (total w sound) ws out)
       ended-so = rw end at t
@@ -247,12 +243,12 @@ module _ (w : Work) (sound : Sound w) (ws out : List Float) (fine : w .inputs (l
   started-undivided calls h c = let d = stands calls h in ends-undivided (dividedOf w calls ws out) (d .0) (d .1) c
 
   -- DEMAND 3, under way: after k visits in all, position, workspace and output are the definition's after k
-  pub underway : (calls : List Call) → RefusesAll w calls (startOf w ws out) → left (dividedOf w calls ws out) ≡ of (after w (dividedOf w calls ws out .0 .visits) ws out)
+  pub underway : (calls : List Call) → RefusesAll w calls (startOf w ws out) → Underway w ws out (dividedOf w calls ws out)
   underway calls h =
       let d = stands calls h in
       let (k, e, v) = run-exact (w .visit) (w .results) (d .0) first in
       let f : dividedOf w calls ws out .0 .visits ≡ k = omega (arith, d .1 .count, v) in
-      d .1 .hands ∙ ap of e ∙ rw f
+      d .1 .hands ∙ ap held e ∙ rw f
 
 -- ---- a start that was refused
 

@@ -71,11 +71,22 @@ unfoldable pub RefusesAll : Work → List Call → Result → Type 0
 RefusesAll w [] r = Unit {0}
 RefusesAll w (c ∷ more) r = Refuses c r × RefusesAll w more (added r (answered w c r))
 
--- ---- how they end
+-- ---- where they stand, and how they end
 
 -- the calculation after k visits
 abbrev pub after : Work → ℕ → List Float → List Float → State
 after w k ws out = iterate (stepOf w) k (opening (fresh w), cleared ws, out)
+
+-- the position and the buffers that a call hands back, and those of a state
+abbrev pub handed : Result → Position × List Float × List Float
+handed r = (r .0 .position, r .1, r .2)
+
+abbrev pub held : State → Position × List Float × List Float
+held s = (s .0 .position, s .1, s .2)
+
+-- calls in a row that have reported k visits in all have come to the definition's state after k
+abbrev pub Underway : Work → List Float → List Float → Result → Type 0
+Underway w ws out r = handed r ≡ held (after w (r .0 .visits) ws out)
 
 -- calls in a row that have ended as the undivided call does
 pub record Undivided (w : Work) (ws out : List Float) (r : Result) : Type 0 where
