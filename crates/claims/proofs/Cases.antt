@@ -1,0 +1,92 @@
+-- The twelve cases, computed. Assumes nothing.
+use mathlib.Core.List.{_++_}
+use mathlib.Core.Path.{refl, ap₂}
+use Prim.{Unit}
+use lib.Ieee.{ofBits, toBits, sub, mul, div, le, ne, ofInt}
+use lib.ListN.{take, drop}
+use Rattle.numbers.specs.Cholesky as cholesky
+use Rattle.numbers.specs.Double as double
+use Rattle.numbers.specs.HalfTurn as turn
+use Rattle.numbers.specs.Mat3 as mat3
+use Rattle.numbers.specs.Mat6 as mat6
+use Rattle.numbers.specs.Quaternion as quaternion
+use Rattle.numbers.specs.Root as root
+use Rattle.numbers.specs.Vec3 as vec3
+use Rattle.refusals.specs.Refusals as refusals
+use Rattle.spatial.specs.Frame as frame
+use Rattle.spatial.specs.Operators as operators
+use Rattle.spatial.specs.Twist as twist
+use Rattle.spatial.specs.Wrench as wrench
+use Rattle.slots.specs.Slots as slots
+use Rattle.arm.specs.Build as build
+use Rattle.arm.specs.Checks as builder
+use Rattle.arm.specs.Joint as joint
+use Rattle.arm.specs.Model as model
+use Rattle.arm.specs.Topology as topology
+use Rattle.calls.specs.Checks as checks
+use Rattle.calls.specs.Position as position
+use Rattle.inertia.specs.Inertia as inertia
+use Rattle.base_solve.specs.BaseSolve as solve
+use Rattle.articulated.specs.First as first
+use Rattle.articulated.specs.Root as base
+use Rattle.articulated.specs.Second as second
+use Rattle.articulated.specs.Third as third
+use Rattle.forward_visits.specs.First as firsts
+use Rattle.forward_visits.specs.Kernel as visits
+use Rattle.forward_visits.specs.Loads as loads
+use Rattle.forward_visits.specs.Plan as plan
+use Rattle.forward_visits.specs.Root as roots
+use Rattle.forward_visits.specs.Second as seconds
+use Rattle.forward_visits.specs.Third as thirds
+use Rattle.mass_matrix.specs.Composite as composite
+use Rattle.mass_matrix.specs.Kernel as columns
+use Rattle.mass_matrix.specs.MassMatrix as matrix
+use Rattle.mass_matrix.specs.Plan as sizes
+use Rattle.mass_matrix.specs.Walk as walk
+use Rattle.forward_dynamics.specs.Checks as inputs
+use Rattle.forward_dynamics.specs.ForwardDynamics as dynamics
+use Rattle.claims.specs.Cases.{twelve, Hold}
+
+-- ---- what computes: to unfold one of these is to unfold all that its line names
+
+open-numbers : Type 0
+unfolding ofBits toBits sub mul div le ne ofInt cholesky.lessOf cholesky.belowTo cholesky.columnOf cholesky.choleskyTo cholesky.forwardRow cholesky.forwardTo cholesky.backRow cholesky.backTo cholesky.solveOf double.finite double.absOf double.maxOf double.finiteTo double.amaxTo turn.sinList turn.cosList turn.hornerOf turn.halfTurnOf mat3.plusOf mat3.minusOf mat3.negOf mat3.transposeOf mat3.applyOf mat3.timesOf mat3.turnedOf mat3.outerOf mat3.identityBy mat3.crossMatrixOf mat6.rowOf mat6.applyOf quaternion.productOf quaternion.inverseOf quaternion.rotateOf quaternion.matrixOf root.rootOf vec3.plusOf vec3.minusOf vec3.negOf vec3.scaleOf vec3.overOf vec3.dotOf vec3.crossOf
+open-numbers = Unit {0}
+
+open-spatial : Type 0
+unfolding frame.productOf frame.turnOf frame.slideOf operators.wrenchToParent operators.motionToChild operators.motionCross operators.forceCross operators.motionForceDot twist.zerosOf twist.plusOf twist.scaleOf twist.rotatedOf wrench.zerosOf wrench.plusOf wrench.minusOf wrench.rotatedOf slots.putVec3 slots.mat3At slots.putMat3 slots.mat6At slots.putTo slots.twistAt slots.putTwist slots.wrenchAt slots.putWrench slots.frameAt slots.putFrame slots.zeroTo slots.cleared slots.partOf
+open-spatial = Unit {0}
+
+open-arm : Type 0
+unfolding refusals.scan refusals.lowest refusals.found refusals.namedOf refusals.plainOf refusals.orElse build.byteSlots build.doubleSlots build.axisSlot build.axisSlots build.modelOf build.builtOf builder.sizedBy builder.axisOf builder.badAxis builder.badRow builder.badRotation builder.listsVerdict builder.verdictOf joint.motionBy joint.normedAxis joint.scaledAxis joint.unitAxis joint.keptAxis joint.notUnit joint.turnedOf joint.frameOf model.emptyModel model.motionOf model.jointOf model.linkOf model.wildJoint model.wildOf topology.activesOf topology.valueOf
+open-arm = Unit {0}
+
+open-calls : Type 0
+unfolding checks.badValue checks.valuesVerdict checks.farTurn checks.turnsVerdict checks.badRotation position.visitsOf position.ended position.advancedBy position.closing position.stepBy position.iterate position.answerBy position.wholeOf
+open-calls = Unit {0}
+
+open-matrix : Type 0
+unfolding composite.compositeAt composite.putComposite composite.shiftedOf composite.toParentOf composite.joinedOf composite.forceOf columns.begunOf columns.frameVisit columns.addInto columns.compositeVisit columns.baseRows columns.columnVisit columns.holdsOf columns.columnFound columns.rootColumns columns.tested columns.rootVisit columns.jointVisit columns.visitOf matrix.restVerdict matrix.inputsVerdict matrix.massMatrix sizes.planBy sizes.putPair walk.entryOf walk.putEntry walk.walkStep walk.climb walk.walkOf
+open-matrix = Unit {0}
+
+open-articulated : Type 0
+unfolding inertia.fromBlocks inertia.rigidOf inertia.inertiaApply inertia.columnOf inertia.unit inertia.alongOf inertia.inertiaApplyJoint inertia.subspaceOf inertia.averageOf solve.rootOr solve.aboveTo solve.scaleOf solve.scaledOf solve.dividedOf solve.differenceOf solve.overOf solve.columnSum solve.normTo solve.sizeOf solve.basis solve.nextNorm solve.inverseTo solve.residualOf solve.nearOf solve.checkedOf solve.solutionOf solve.conditionedOf solve.factoredOf solve.baseSolve first.bodyInertia first.biasForce first.firstOf base.rootVelocity base.gravityLocal base.fixedAcceleration base.rightSide base.worldAcceleration base.judgedBase base.solvedBase base.baseOf second.termOf second.judgedTerm third.carriedAcceleration third.jointAcceleration third.movedBy
+open-articulated = Unit {0}
+
+open-dynamics : Type 0
+unfolding firsts.parentTwist firsts.putFirst firsts.firstAt firsts.firstVisit visits.outcomeOf visits.passVisit visits.visitOf loads.loadTo loads.loadsTo plan.planBy roots.putRoot roots.begunOf roots.baseAt roots.keptBase roots.floatingRoot roots.rootVisit seconds.termAt seconds.putTerm seconds.newTerm seconds.unlessRefused seconds.keptTerm seconds.eliminated seconds.propagated seconds.secondVisit thirds.carriedAt thirds.keptJoint thirds.solvedJoint thirds.thirdVisit inputs.wildNumber inputs.leastTo inputs.motionVerdict inputs.forcesVerdict inputs.loadsVerdict inputs.rootVerdict inputs.restVerdict inputs.inputsVerdict dynamics.forwardDynamics
+open-dynamics = Unit {0}
+
+-- ---- in two parts, since the steps of one computation are limited
+
+one-to-eight : Hold (take 8 twelve)
+unfolding twelve open-numbers open-spatial open-arm open-calls open-matrix
+one-to-eight = refl
+
+nine-to-twelve : Hold (drop 8 twelve)
+unfolding twelve open-numbers open-spatial open-arm open-calls open-matrix open-articulated open-dynamics
+nine-to-twelve = refl
+
+pub cases : Hold twelve
+unfolding twelve
+cases = ap₂ _++_ one-to-eight nine-to-twelve

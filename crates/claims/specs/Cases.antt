@@ -1,0 +1,162 @@
+-- The twelve small cases of document 01: what is asked, by the definitions of the calls, and what is to be told. Definitions only.
+-- "Unless said: identity origins and root rotation, fixed root, other numbers zero."
+use mathlib.Core.List.{List, [], _∷_, _++_, map}
+use mathlib.Core.Path.{_≡_}
+use Prim.Native.Nat.{ℕ, _+_, _*_}
+use lib.ListN.{length, replicate}
+use lib.Ieee.{Float, binary64, toBits}
+use Rattle.numbers.specs.Double.{_⊗_, _⊘_, bits, 0·0, 1·0, 2·0}
+use Rattle.numbers.specs.Root.{rootOf}
+use Rattle.numbers.specs.Vec3.{vecBy}
+use Rattle.numbers.specs.declared.quaternion.Quaternion.{Quaternion}
+use Rattle.numbers.specs.declared.root.Root.{Root}
+use Rattle.numbers.specs.declared.root.Root.the-variants.{Is, No}
+use Rattle.refusals.specs.declared.Place.{Place}
+use Rattle.refusals.specs.declared.Place.the-variants.{At, Nothing}
+use Rattle.refusals.specs.declared.Verdict.{Verdict}
+use Rattle.refusals.specs.declared.Verdict.the-variants.{Fine}
+use Rattle.refusals.specs.declared.Verdict.the-variants as verdict
+use Rattle.spatial.specs.Twist.{zerosOf}
+use Rattle.slots.specs.Slots.{vec3At}
+use Rattle.arm.specs.Build.{builtOf}
+use Rattle.arm.specs.Joint.{components}
+use Rattle.arm.specs.declared.build.Built.{Built}
+use Rattle.calls.specs.Position.{Result, wholeOf}
+use Rattle.calls.specs.declared.position.Outcome.{Outcome}
+use Rattle.calls.specs.declared.position.Outcome.the-variants.{Open, Accepted}
+use Rattle.calls.specs.declared.position.Outcome.the-variants as outcome
+use Rattle.mass_matrix.specs.MassMatrix.{massMatrix}
+use Rattle.mass_matrix.specs.declared.mass_matrix.Mode.the-variants as matrix
+use Rattle.forward_dynamics.specs.ForwardDynamics.{forwardDynamics}
+use Rattle.forward_dynamics.specs.declared.forward_dynamics.Mode.{Mode}
+use Rattle.forward_dynamics.specs.declared.forward_dynamics.Mode.the-variants.{Fixed, Floating}
+
+-- ---- what is told, in bit patterns of doubles
+
+pub data Told : Type 0 where
+  given : List ℕ → Told
+  -- by document 01's number, what is named, and what the numbers then are
+  refused : ℕ → Place → List ℕ → Told
+  -- no root, or a calculation that has not ended
+  unanswered : Told
+
+abbrev pub patterns : List Float → List ℕ
+patterns v = map (toBits binary64) v
+
+abbrev pub ofRoot : Root → Told
+ofRoot (Is r) = given (patterns (r ∷ []))
+ofRoot No = unanswered
+
+abbrev pub ofVerdict : Verdict → List Float → Told
+ofVerdict Fine v = given (patterns v)
+ofVerdict (verdict.Refused number p) v = refused number p (patterns v)
+
+abbrev pub ofOutcome : Outcome → List Float → Told
+ofOutcome Open v = unanswered
+ofOutcome Accepted v = given (patterns v)
+ofOutcome (outcome.Refused number p) v = refused number p (patterns v)
+
+-- ---- the arms
+
+abbrev 3·0 : Float
+3·0 = bits 0x4008_0000_0000_0000
+
+abbrev 4·0 : Float
+4·0 = bits 0x4010_0000_0000_0000
+
+-- 9.80665 and 1e308
+abbrev gravity : Float
+gravity = bits 0x4023_9d01_3a92_a305
+
+abbrev huge : Float
+huge = bits 0x7fe1_ccf3_85eb_c8a0
+
+abbrev zeros : ℕ → List Float
+zeros n = replicate n 0·0
+
+abbrev axis : Float → Float → Float → List Float
+axis x y z = x ∷ y ∷ z ∷ []
+
+-- a link of a mass, xx, yy and zz
+abbrev link : Float → Float → Float → Float → List Float
+link mass xx yy zz = mass ∷ 0·0 ∷ 0·0 ∷ 0·0 ∷ xx ∷ 0·0 ∷ 0·0 ∷ yy ∷ 0·0 ∷ zz ∷ []
+
+abbrev weight : Float → List Float
+weight mass = link mass 0·0 0·0 0·0
+
+abbrev origin : List Float
+origin = 1·0 ∷ zeros 6
+
+-- one joint, of a kind: 0 turns, 1 slides
+abbrev oneJoint : ℕ → List Float → List Float → Built
+oneJoint kind a l = builtOf 1 (0 ∷ []) (kind ∷ []) origin a (zeros 10 ++ l)
+
+-- slides on z: one that carries a mass, and two, the second on a link
+abbrev z : List Float
+z = axis 0·0 0·0 1·0
+
+abbrev oneSlide : Float → Built
+oneSlide mass = oneJoint 1 z (weight mass)
+
+abbrev twoSlides : ℕ → Float → Float → Built
+twoSlides parent a b = builtOf 2 (0 ∷ parent ∷ []) (1 ∷ 1 ∷ []) (origin ++ origin) (z ++ z) (zeros 10 ++ weight a ++ weight b)
+
+-- ---- the calls
+
+-- joint 0's axis, as it is kept
+abbrev keptAxis : List Float → Told
+keptAxis a = let b = oneJoint 1 a (weight 0·0) in ofVerdict (b .verdict) (components (vec3At (b .model .axes) 0))
+
+-- lent to be written: ones, so that what is told was written
+abbrev ones : ℕ → List Float
+ones n = replicate n 1·0
+
+abbrev output : Result → Told
+output r = ofOutcome (r .0 .outcome) (r .2)
+
+-- the undivided calls, at rest with every joint at 0
+abbrev fixedMatrix : Built → Told
+fixedMatrix b = let n = b .model .n in output (wholeOf (massMatrix matrix.Fixed (b .model) (zeros n)) (ones (n * 32 + 64 + n * n)) (ones (n * n)))
+
+abbrev forward : Mode → Built → List Float → Told
+forward mode b forces =
+    let n = b .model .n in
+    output (wholeOf (forwardDynamics mode (b .model) (zeros n) (zeros n) forces [] []) (ones (n * 96 + 64)) (ones (length forces)))
+
+abbrev upright : Quaternion
+upright = record { w = 1·0; u = vecBy (λ i. 0·0) }
+
+-- ---- the list
+
+-- what is asked and what is to be told, under document 01's numbers
+unfoldable pub twelve : List (Told × Told)
+twelve =
+    -- 1: the root of 2.25 is 1.5
+    (ofRoot (rootOf (bits 0x4002_0000_0000_0000)), given (0x3ff8_0000_0000_0000 ∷ []))
+    -- 2: (3, 4, 0) becomes (0.75/1.25, 1/1.25, 0)
+    ∷ (keptAxis (axis 3·0 4·0 0·0), given (patterns (axis (bits 0x3fe8_0000_0000_0000 ⊘ bits 0x3ff4_0000_0000_0000) (1·0 ⊘ bits 0x3ff4_0000_0000_0000) 0·0)))
+    -- 3 and 4: (1e-12, 0, 0) and (2e-12, 0, 0)
+    ∷ (keptAxis (axis (bits 0x3d71_9799_812d_ea11) 0·0 0·0), refused 5 (At 0) (0 ∷ 0 ∷ 0 ∷ []))
+    ∷ (keptAxis (axis (bits 0x3d81_9799_812d_ea11) 0·0 0·0), given (0x3ff0_0000_0000_0000 ∷ 0 ∷ 0 ∷ []))
+    -- 5: 2
+    ∷ (fixedMatrix (oneSlide 2·0), given (0x4000_0000_0000_0000 ∷ []))
+    -- 6: 5, 3, 3, 3
+    ∷ (fixedMatrix (twoSlides 1 2·0 3·0), given (0x4014_0000_0000_0000 ∷ 0x4008_0000_0000_0000 ∷ 0x4008_0000_0000_0000 ∷ 0x4008_0000_0000_0000 ∷ []))
+    -- 7: 2, +0.0, +0.0, 3
+    ∷ (fixedMatrix (twoSlides 0 2·0 3·0), given (0x4000_0000_0000_0000 ∷ 0 ∷ 0 ∷ 0x4008_0000_0000_0000 ∷ []))
+    -- 8: 5
+    ∷ (fixedMatrix (oneJoint 0 (axis 0·0 0·0 (bits 0xbff0_0000_0000_0000)) (link 0·0 0·0 0·0 (bits 0x4014_0000_0000_0000))), given (0x4014_0000_0000_0000 ∷ []))
+    -- 9: -9.80665
+    ∷ (forward (Fixed upright) (oneSlide 2·0) (0·0 ∷ []), given (0xc023_9d01_3a92_a305 ∷ []))
+    -- 10: both calculations, the matrix +0.0
+    ∷ (forward (Fixed upright) (oneSlide 0·0) (0·0 ∷ []), refused 31 (At 0) (0x3ff0_0000_0000_0000 ∷ []))
+    ∷ (fixedMatrix (oneSlide 0·0), given (0 ∷ []))
+    -- 11: the output as it was
+    ∷ (fixedMatrix (twoSlides 1 huge huge), refused 37 Nothing (replicate 4 0x3ff0_0000_0000_0000))
+    -- 12: all six +0.0
+    ∷ (forward (Floating upright zerosOf) (builtOf 0 [] [] [] [] (link 4·0 1·0 1·0 1·0)) (zeros 5 ++ 4·0 ⊗ gravity ∷ []), given (replicate 6 0))
+    ∷ []
+
+-- each is told as expected
+abbrev pub Hold : List (Told × Told) → Type 0
+Hold cases = map (λ c. c .0) cases ≡ map (λ c. c .1) cases
