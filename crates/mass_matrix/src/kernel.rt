@@ -115,17 +115,29 @@ fn column_visit<'a>(
     requires { ⌜ Fit p (now parents) (now kinds) (now numbers) × Room p (length (now ws)) × (j < p .n) × (kindOf (now kinds) j ≡ 2 → ⊥) ⌝ }
     ensures { λ _. ⌜ now (ws .exit) ≡ columnVisit p r (now (parents .entry)) (now (kinds .entry)) (now (axes .entry)) j (now (ws .entry)) ⌝ }
 {
-    let lead = p.lead;
     let column = plan::row_of(p, parents, kinds, numbers, j);
     let motion = model::motion_at(kinds, axes, j);
     let c = composite::composite_at(ws, j * 32 + 7);
     let force = composite::force(motion, c);
-    let up = walk::walk(p, parents, kinds, axes, numbers, ws, j, force, column);
-    if lead == 0 {
-        return;
-    }
-    let world = up.rotated(r);
-    plan::put_six(p, ws, column, world);
+    let t = force.torque;
+    let f = force.force;
+    walk::walk(
+        p,
+        r,
+        parents,
+        kinds,
+        axes,
+        numbers,
+        ws,
+        j,
+        column,
+        t.x,
+        t.y,
+        t.z,
+        f.x,
+        f.y,
+        f.z,
+    );
 }
 
 // Joint j is active and has active number k.

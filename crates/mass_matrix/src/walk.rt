@@ -2,12 +2,19 @@
 ghost use mathlib.Core.Path.{_≡_};
 ghost use Prim.Native.Nat.{_+_, _*_, _≤_, _<_};
 ghost use lib.ListN.{length};
-ghost use Rattle.mass_matrix.specs.Plan.{Fit, Room};
-ghost use Rattle.mass_matrix.specs.Walk.{entryOf, putEntry, walkStep, walkOf};
+ghost use Rattle.spatial.specs.Operators.{wrenchToParent};
+ghost use Rattle.spatial.specs.Wrench.{rotatedOf};
+ghost use Rattle.slots.specs.Slots.{frameAt};
+ghost use Rattle.arm.specs.Model.{motionOf};
+ghost use Rattle.mass_matrix.specs.Plan.{Fit, Room, putSix};
+ghost use Rattle.mass_matrix.specs.Walk.{entryOf, putEntry, walkOf};
+ghost use Rattle.mass_matrix.specs.Kernel.{baseRows};
 use crate::plan;
 use crate::plan::Plan;
 use arm::joint::Motion;
 use arm::model;
+use numbers::quaternion::Quaternion;
+use numbers::vec3::Vec3;
 use spatial::operators;
 use spatial::wrench::Wrench;
 
@@ -44,8 +51,8 @@ fn put_entry<'a>(
     plan::put_pair(p, ws, row, column, entry);
 }
 
-// One joint of the walk: its entry is written, and the wrench is carried to its parent.
-fn walk_here<'a>(
+// Joint j's entry from the wrench that has come to it.
+fn put_here<'a>(
     p: Plan,
     parents: &'a [u8; 32],
     kinds: &'a [u8; 32],
@@ -55,37 +62,95 @@ fn walk_here<'a>(
     j: usize,
     w: Wrench,
     column: usize,
-) -> Wrench
+)
     requires { ⌜ Fit p (now parents) (now kinds) (now numbers) × Room p (length (now ws)) × (j < p .n) × (column < p .side) ⌝ }
-    ensures { λ r. ⌜ (r, now (ws .exit)) ≡ walkStep p (now (kinds .entry)) (now (axes .entry)) column j (w, now (ws .entry)) ⌝ }
+    ensures { λ _. ⌜ now (ws .exit) ≡ putEntry p (now (kinds .entry)) column j (entryOf (motionOf (now (kinds .entry)) (now (axes .entry)) j) w) (now (ws .entry)) ⌝ }
 {
     let motion = model::motion_at(kinds, axes, j);
     let e = entry(motion, w);
     put_entry(p, parents, kinds, numbers, ws, j, column, e);
+}
+
+// A wrench carried from joint j to its parent.
+fn carried(ws: &[f64], j: usize, w: Wrench) -> Wrench
+    requires { ⌜ (j < 32) × (j * 32 + 7 ≤ length (now ws)) ⌝ }
+    ensures { λ r. ⌜ r ≡ wrenchToParent (frameAt (now (ws .entry)) (j * 32)) w ⌝ }
+{
     let f = slots::frame_at(ws, j * 32);
     operators::wrench_to_parent(f, w)
 }
 
-// From joint j to its parent until the root is reached; the wrench at the root.
+// The base's rows of a column, from the wrench at the root.
+fn base_rows(p: Plan, r: Quaternion, ws: &mut [f64], column: usize, w: Wrench)
+    requires { ⌜ Room p (length (now ws)) × (6 ≤ p .side) × (column < p .side) ⌝ }
+    ensures { λ _. ⌜ now (ws .exit) ≡ putSix p column (rotatedOf w r) (now (ws .entry)) ⌝ }
+{
+    let world = w.rotated(r);
+    plan::put_six(p, ws, column, world);
+}
+
+// From joint j to its parent until the root is reached, and the base's rows where it floats.
+// The wrench comes as six numbers, which stay in registers; a fixed root needs none.
 pub fn walk<'a>(
     p: Plan,
+    r: Quaternion,
     parents: &'a [u8; 32],
     kinds: &'a [u8; 32],
     axes: &'a [f64; 96],
     numbers: &'a [u8; 33],
     ws: &mut [f64],
     j: usize,
-    w: Wrench,
     column: usize,
-) -> Wrench
+    tx: f64,
+    ty: f64,
+    tz: f64,
+    fx: f64,
+    fy: f64,
+    fz: f64,
+)
     requires { ⌜ Fit p (now parents) (now kinds) (now numbers) × Room p (length (now ws)) × (j < p .n) × (column < p .side) ⌝ }
-    ensures { λ r. ⌜ (r, now (ws .exit)) ≡ walkOf p (now (parents .entry)) (now (kinds .entry)) (now (axes .entry)) column j (w, now (ws .entry)) ⌝ }
+    ensures { λ _. ⌜ now (ws .exit) ≡ baseRows p r column (walkOf p (now (parents .entry)) (now (kinds .entry)) (now (axes .entry)) column j (record { torque = record { x = tx; y = ty; z = tz }; force = record { x = fx; y = fy; z = fz } }, now (ws .entry))) ⌝ }
 {
     let n = p.n;
-    let up = walk_here(p, parents, kinds, axes, numbers, ws, j, w, column);
+    let lead = p.lead;
+    let torque = Vec3 {
+        x: tx,
+        y: ty,
+        z: tz,
+    };
+    let force = Vec3 {
+        x: fx,
+        y: fy,
+        z: fz,
+    };
+    let w = Wrench { torque, force };
+    put_here(p, parents, kinds, axes, numbers, ws, j, w, column);
     let parent = model::parent_at(n, parents, j);
-    if parent == 0 {
-        return up;
+    if parent + lead == 0 {
+        return;
     }
-    walk(p, parents, kinds, axes, numbers, ws, parent - 1, up, column)
+    let up = carried(ws, j, w);
+    if parent == 0 {
+        base_rows(p, r, ws, column, up);
+        return;
+    }
+    let t = up.torque;
+    let f = up.force;
+    walk(
+        p,
+        r,
+        parents,
+        kinds,
+        axes,
+        numbers,
+        ws,
+        parent - 1,
+        column,
+        t.x,
+        t.y,
+        t.z,
+        f.x,
+        f.y,
+        f.z,
+    )
 }
