@@ -4,7 +4,7 @@ use mathlib.Core.List.{List, [], _∷_}
 use Prim.Native.Nat.{ℕ, _-_}
 use lib.ListN.{take}
 use lib.Ieee.{Float}
-use Rattle.calls.specs.Position.{Work, Result, iterate, begunAt, startOf, portionOf, wholeOf, portionsFrom}
+use Rattle.calls.specs.Position.{Work, Result, iterate, begunAt, startOf, portionOf, wholeOf}
 use Rattle.calculations.specs.declared.make.Last.{Last}
 use Rattle.calculations.specs.declared.make.How.{How}
 use Rattle.calculations.specs.declared.make.How.the-variants.{Times, From}
@@ -13,7 +13,12 @@ use Rattle.calculations.specs.declared.make.How.the-variants.{Times, Fro
 abbrev pub Made : Type 0
 Made = List ℕ × Result
 
--- what each portion of `portionsFrom` reports
+-- portions in a row, each on the position and the buffers that the one before handed back
+unfoldable pub portionsFrom : Work → List ℕ → Result → Result
+portionsFrom w [] r = r
+portionsFrom w (budget ∷ more) r = portionsFrom w more (portionOf w budget (r .0 .position) (r .1) (r .2))
+
+-- what each of them reports
 unfoldable pub countsFrom : Work → List ℕ → Result → List ℕ
 countsFrom w [] r = []
 countsFrom w (budget ∷ more) r = let s = portionOf w budget (r .0 .position) (r .1) (r .2) in s .0 .visits ∷ countsFrom w more s

@@ -38,7 +38,7 @@ fn put_term(s: &mut [f64], at: usize, t: Term)
     slots::put_number(s, at + 7, bias);
 }
 
-// Active joint j's terms, with the force at a place.
+// Active joint j's terms, with the force at a place. U comes from the whole inertia, what the joint's own motion takes up included.
 fn new_term<'a>(
     kinds: &'a [u8; 32],
     axes: &'a [f64; 96],
@@ -51,7 +51,7 @@ fn new_term<'a>(
     ensures { λ r. ⌜ r ≡ newTerm (now (kinds .entry)) (now (axes .entry)) (now (forces .entry)) j place (now (ws .entry)) ⌝ }
 {
     let motion = model::motion_at(kinds, axes, j);
-    let articulated = slots::mat6_at(ws, j * 95 + 19);
+    let articulated = reduced_at(true, ws, j);
     let force = slots::wrench_at(ws, j * 95 + 55);
     let own = slots::number_at(forces, place);
     second::joint_term(motion, &articulated, force, own)
@@ -86,13 +86,13 @@ fn eliminate<'a>(
     Verdict::Fine
 }
 
-// Joint j's inertia without what its own motion takes up: a fixed joint's is whole.
-fn reduced_at(fixed: bool, ws: &[f64], j: usize) -> [f64; 36]
+// Joint j's inertia, whole, as a fixed joint's is, or without what its own motion takes up.
+fn reduced_at(whole: bool, ws: &[f64], j: usize) -> [f64; 36]
     requires { ⌜ (j < 32) × (j * 95 + 95 ≤ length (now ws)) ⌝ }
-    ensures { λ r. ⌜ r ≡ reducedAt fixed j (now (ws .entry)) ⌝ }
+    ensures { λ r. ⌜ r ≡ reducedAt whole j (now (ws .entry)) ⌝ }
 {
     let inertia = slots::mat6_at(ws, j * 95 + 19);
-    if fixed {
+    if whole {
         return inertia;
     }
     let t = term_at(ws, j * 95 + 61);

@@ -8,8 +8,8 @@ use native.Mathlib.Omega.{arith}
 use lib.ListN.{length, getD, take, drop, set, drop-of-length-le}
 use lib.Seq.{drop-cons, take-suc-set}
 use lib.Ieee.{Float}
-use Rattle.calls.specs.Position.{Work, Result, iterate, startOf, portionOf, wholeOf, portionsFrom}
-use Rattle.calculations.specs.Make.{Made, countsFrom, inPortions, undivided, begunIn, onceOf}
+use Rattle.calls.specs.Position.{Work, Result, iterate, startOf, portionOf, wholeOf}
+use Rattle.calculations.specs.Make.{Made, countsFrom, portionsFrom, inPortions, undivided, begunIn, onceOf}
 
 -- after k portions: the counts so far and those to come, and the end
 abbrev pub after : Work → List ℕ → ℕ → List ℕ → Result → Made

@@ -1,4 +1,4 @@
-use Rattle.forward_visits.specs.Second.{newTerm}
+use Rattle.forward_visits.specs.Second.{newTerm, reducedAt}
 use borrow.Author.Needs.{needs}
 use Rattle.forward_visits.proofs.second.new_term.Statement.{statement}
 use Rattle.forward_visits.proofs.second.new_term.Tie as tie
@@ -6,14 +6,8 @@ use Rattle.forward_visits.proofs.second.new_term.Tie as tie
 motion-at-requires : tie.Need-motion-at-requires
 motion-at-requires c κs = search needs
 
-mul-mat6-at : tie.Need-mul-mat6-at
-mul-mat6-at c = search needs
-
-add-mat6-at : tie.Need-add-mat6-at
-add-mat6-at c = search needs
-
-mat6-at-requires : tie.Need-mat6-at-requires
-mat6-at-requires c κs = search needs
+reduced-at-requires : tie.Need-reduced-at-requires
+reduced-at-requires c κs = search needs
 
 mul-wrench-at : tie.Need-mul-wrench-at
 mul-wrench-at c = search needs
@@ -31,17 +25,15 @@ joint-term-requires : tie.Need-joint-term-requires
 joint-term-requires c κs = search needs
 
 returns : tie.Need-returns
-unfolding newTerm
-returns c = let b2 = c .before .before in let b3 = b2 .before in let b4 = b3 .before in let b5 = b4 .before in rw (c .joint-term .ensures, b2 .number-at .ensures, b3 .wrench-at .ensures, b4 .mat6-at .ensures, b5 .motion-at .ensures)
+unfolding newTerm reducedAt
+returns c = let b2 = c .before .before in let b3 = b2 .before in let b4 = b3 .before in let b5 = b4 .before in rw (c .joint-term .ensures, b2 .number-at .ensures, b3 .wrench-at .ensures, b4 .reduced-at .ensures, b5 .motion-at .ensures)
 
 pub new-term-spec : {M : Type 1} → statement M
 new-term-spec =
     tie.close
     (tie.spec
     motion-at-requires
-    mul-mat6-at
-    add-mat6-at
-    mat6-at-requires
+    reduced-at-requires
     mul-wrench-at
     add-wrench-at
     wrench-at-requires
