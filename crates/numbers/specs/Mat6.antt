@@ -18,10 +18,6 @@ unfoldable pub plusOf : List Float → List Float → List Float
 unfolding tab
 plusOf a b = tab (λ t. getD a t nan ⊕ getD b t nan) 36
 
-unfoldable pub transposeOf : List Float → List Float
-unfolding tab
-transposeOf m = matBy (λ i j. cell m j i)
-
 -- row i of m v
 unfoldable pub rowOf : List Float → List Float → ℕ → Float
 unfolding sumTo
@@ -31,13 +27,3 @@ rowOf m v i = sumTo (λ k. cell m i k ⊗ getD v k nan) 5
 unfoldable pub applyOf : List Float → List Float → List Float
 unfolding tab
 applyOf m v = tab (rowOf m v) 6
-
--- entry (i, j) of a b
-unfoldable pub entryOf : List Float → List Float → ℕ → ℕ → Float
-unfolding sumTo
-entryOf a b i j = sumTo (λ k. cell a i k ⊗ cell b k j) 5
-
--- a b
-unfoldable pub timesOf : List Float → List Float → List Float
-unfolding tab
-timesOf a b = matBy (entryOf a b)
