@@ -89,8 +89,24 @@ fn base_rows(p: Plan, r: Quaternion, ws: &mut [f64], column: usize, w: Wrench)
     plan::put_six(p, ws, column, world);
 }
 
+fn wrench(tx: f64, ty: f64, tz: f64, fx: f64, fy: f64, fz: f64) -> Wrench
+    ensures { λ r. ⌜ r ≡ record { torque = record { x = tx; y = ty; z = tz }; force = record { x = fx; y = fy; z = fz } } ⌝ }
+{
+    let torque = Vec3 {
+        x: tx,
+        y: ty,
+        z: tz,
+    };
+    let force = Vec3 {
+        x: fx,
+        y: fy,
+        z: fz,
+    };
+    Wrench { torque, force }
+}
+
 // From joint j to its parent until the root is reached, and the base's rows where it floats.
-// The wrench comes as six numbers, which stay in registers; a fixed root needs none.
+// The wrench comes as six numbers, which stay in registers, and two joints are done a call, which costs half as much as a joint. A fixed root needs no wrench.
 pub fn walk<'a>(
     p: Plan,
     r: Quaternion,
@@ -113,17 +129,7 @@ pub fn walk<'a>(
 {
     let n = p.n;
     let lead = p.lead;
-    let torque = Vec3 {
-        x: tx,
-        y: ty,
-        z: tz,
-    };
-    let force = Vec3 {
-        x: fx,
-        y: fy,
-        z: fz,
-    };
-    let w = Wrench { torque, force };
+    let w = wrench(tx, ty, tz, fx, fy, fz);
     put_here(p, parents, kinds, axes, numbers, ws, j, w, column);
     let parent = model::parent_at(n, parents, j);
     if parent + lead == 0 {
@@ -134,8 +140,19 @@ pub fn walk<'a>(
         base_rows(p, r, ws, column, up);
         return;
     }
-    let t = up.torque;
-    let f = up.force;
+    let i = parent - 1;
+    put_here(p, parents, kinds, axes, numbers, ws, i, up, column);
+    let grand = model::parent_at(n, parents, i);
+    if grand + lead == 0 {
+        return;
+    }
+    let upper = carried(ws, i, up);
+    if grand == 0 {
+        base_rows(p, r, ws, column, upper);
+        return;
+    }
+    let t = upper.torque;
+    let f = upper.force;
     walk(
         p,
         r,
@@ -144,7 +161,7 @@ pub fn walk<'a>(
         axes,
         numbers,
         ws,
-        parent - 1,
+        grand - 1,
         column,
         t.x,
         t.y,
