@@ -61,12 +61,12 @@ fn frame_visit<'a>(
 {
     let n = p.n;
     let joint = model::joint_at(n, parents, kinds, origins, axes, j);
-    let link = model::link_at(links, j + 1);
     let value = topology::value_at(kinds, numbers, q, n, j);
     let origin = joint.origin;
     let motion = joint.motion;
     let frame = joint::frame(origin, motion, value);
     slots::put_frame(ws, j * 32, frame);
+    let link = model::link_at(links, j + 1);
     composite::put_composite(ws, j * 32 + 7, link);
 }
 
