@@ -2,8 +2,9 @@
 ghost use mathlib.Core.Path.{_≡_};
 ghost use Prim.Native.Nat.{_≤_};
 ghost use lib.ListN.{length};
+ghost use Rattle.calls.specs.Position.{startOf};
 ghost use Rattle.calculations.specs.Calculation.{workOf, inputsBy};
-ghost use Rattle.calculations.specs.Make.{inPortions, onceOf, timesOf, madeOf, madeBy};
+ghost use Rattle.calculations.specs.Make.{inPortions, begunIn, onceOf, timesOf, madeOf, madeBy};
 use crate::calculation;
 use crate::calculation::Calculation;
 use arm::model::Model;
@@ -64,8 +65,8 @@ fn portions<'a>(
     Last { counts: k, answer }
 }
 
-// Where no budget is given, the undivided call; else a start, and where that is not refused its portions.
-fn once<'a>(
+// A start, and where that is not refused a portion for each budget.
+fn divided<'a>(
     c: Calculation,
     m: Model,
     q: &'a [f64],
@@ -79,13 +80,8 @@ fn once<'a>(
     out: &mut [f64],
 ) -> Last
     requires { ⌜ (length (now budgets) ≤ 4096) × (length (now counts) ≡ 4096) ⌝ }
-    ensures { λ r. ⌜ (madeBy r (now (counts .exit)) (now (ws .exit)) (now (out .exit)) ≡ onceOf (workOf c m (inputsBy (now (q .entry)) (now (qd .entry)) (now (forces .entry)) (now (loaded .entry)) (now (loads .entry)))) (now (budgets .entry)) (now (ws .entry)) (now (out .entry))) × (r .counts ≤ length (now (counts .exit))) × (length (now (counts .exit)) ≡ length (now (counts .entry))) ⌝ }
+    ensures { λ r. ⌜ (madeBy r (now (counts .exit)) (now (ws .exit)) (now (out .exit)) ≡ begunIn (workOf c m (inputsBy (now (q .entry)) (now (qd .entry)) (now (forces .entry)) (now (loaded .entry)) (now (loads .entry)))) (now (budgets .entry)) (startOf (workOf c m (inputsBy (now (q .entry)) (now (qd .entry)) (now (forces .entry)) (now (loaded .entry)) (now (loads .entry)))) (now (ws .entry)) (now (out .entry)))) × (r .counts ≤ length (now (counts .exit))) × (length (now (counts .exit)) ≡ length (now (counts .entry))) ⌝ }
 {
-    if budgets.len() == 0 {
-        let answer = calculation::whole(c, m, q, qd, forces, loaded, loads, ws, out);
-        counts[0] = answer.visits as u64;
-        return Last { counts: 1, answer };
-    }
     let begun = calculation::start(c, m, q, qd, forces, loaded, loads, ws, out);
     let position = begun.position;
     if position.closed {
@@ -108,6 +104,31 @@ fn once<'a>(
         ws,
         out,
     )
+}
+
+// Where no budget is given, the undivided call; else a start and its portions, apart, so that the undivided call copies the model once.
+fn once<'a>(
+    c: Calculation,
+    m: Model,
+    q: &'a [f64],
+    qd: &'a [f64],
+    forces: &'a [f64],
+    loaded: &'a [u64],
+    loads: &'a [f64],
+    budgets: &'a [u64],
+    counts: &mut [u64],
+    ws: &mut [f64],
+    out: &mut [f64],
+) -> Last
+    requires { ⌜ (length (now budgets) ≤ 4096) × (length (now counts) ≡ 4096) ⌝ }
+    ensures { λ r. ⌜ (madeBy r (now (counts .exit)) (now (ws .exit)) (now (out .exit)) ≡ onceOf (workOf c m (inputsBy (now (q .entry)) (now (qd .entry)) (now (forces .entry)) (now (loaded .entry)) (now (loads .entry)))) (now (budgets .entry)) (now (ws .entry)) (now (out .entry))) × (r .counts ≤ length (now (counts .exit))) × (length (now (counts .exit)) ≡ length (now (counts .entry))) ⌝ }
+{
+    if budgets.len() == 0 {
+        let answer = calculation::whole(c, m, q, qd, forces, loaded, loads, ws, out);
+        counts[0] = answer.visits as u64;
+        return Last { counts: 1, answer };
+    }
+    divided(c, m, q, qd, forces, loaded, loads, budgets, counts, ws, out)
 }
 
 fn times<'a>(

@@ -1,3 +1,4 @@
 pub mod Checks
+pub mod Plan
 pub mod Position
 pub mod Portions

@@ -1,3 +1,4 @@
-// What both calculations share: the position, its portions, how a calculation closes, and the checks that both make.
+// What both calculations share: the position, its portions, how a calculation closes, its sizes, and the checks that both make.
 pub mod checks;
+pub mod plan;
 pub mod position;

@@ -34,7 +34,7 @@ use Rattle.articulated.specs.Third as third
 use Rattle.forward_visits.specs.First as firsts
 use Rattle.forward_visits.specs.Kernel as visits
 use Rattle.forward_visits.specs.Loads as loads
-use Rattle.forward_visits.specs.Plan as plan
+use Rattle.calls.specs.Plan as plan
 use Rattle.forward_visits.specs.Root as roots
 use Rattle.forward_visits.specs.Second as seconds
 use Rattle.forward_visits.specs.Third as thirds
@@ -66,7 +66,7 @@ unfolding checks.badValue checks.valuesVerdict checks.farTurn checks.turnsVerdic
 open-calls = Unit {0}
 
 open-matrix : Type 0
-unfolding composite.compositeAt composite.putComposite composite.shiftedOf composite.toParentOf composite.joinedOf composite.forceOf columns.begunOf columns.frameVisit columns.addInto columns.compositeVisit columns.baseRows columns.columnVisit columns.holdsOf columns.columnFound columns.rootColumns columns.tested columns.rootVisit columns.jointVisit columns.visitOf matrix.restVerdict matrix.inputsVerdict matrix.massMatrix sizes.planBy sizes.putPair walk.entryOf walk.putEntry walk.walkStep walk.climb walk.walkOf
+unfolding composite.compositeAt composite.putComposite composite.shiftedOf composite.toParentOf composite.joinedOf composite.forceOf columns.begunOf columns.frameVisit columns.addInto columns.compositeVisit columns.baseRows columns.columnVisit columns.holdsOf columns.columnFound columns.rootColumns columns.tested columns.rootVisit columns.jointVisit columns.visitOf matrix.restVerdict matrix.inputsVerdict matrix.massMatrix plan.planBy sizes.putPair walk.entryOf walk.putEntry walk.walkStep walk.climb walk.walkOf
 open-matrix = Unit {0}
 
 open-articulated : Type 0

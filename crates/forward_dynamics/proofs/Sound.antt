@@ -7,7 +7,7 @@ use Rattle.arm.specs.declared.model.Model.{Model}
 use Rattle.articulated.specs.Root.{rootVelocity}
 use Rattle.calls.specs.Position.{visitsOf}
 use Rattle.calls.specs.Portions.{Sound}
-use Rattle.forward_visits.specs.Plan.{planBy, planOf}
+use Rattle.calls.specs.Plan.{planBy, planOf}
 use Rattle.forward_visits.proofs.Kept.{length-visit, last-ends, others-wait}
 use Rattle.forward_dynamics.specs.ForwardDynamics.{floats, rotationOf, baseOf, forwardDynamics}
 use Rattle.forward_dynamics.specs.declared.forward_dynamics.Mode.{Mode}

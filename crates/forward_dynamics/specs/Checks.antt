@@ -17,7 +17,7 @@ use Rattle.spatial.specs.declared.twist.Twist.{Twist}
 use Rattle.slots.specs.Slots.{wrenchAt}
 use Rattle.arm.specs.Model.{wildOf}
 use Rattle.calls.specs.Checks.{valuesVerdict, turnsVerdict, badRotation}
-use Rattle.forward_visits.specs.Plan.{planOf}
+use Rattle.calls.specs.Plan.{planOf}
 
 unfoldable pub wildNumber : List Float → ℕ → Bool
 wildNumber s i = not (finite (getD s i nan))

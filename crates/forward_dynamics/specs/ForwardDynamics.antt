@@ -12,12 +12,13 @@ use Rattle.arm.specs.declared.model.Model.{Model}
 use Rattle.calls.specs.Position.{Work}
 use Rattle.calls.specs.declared.position.Position.{Position}
 use Rattle.articulated.specs.Root.{rootVelocity}
-use Rattle.forward_visits.specs.Plan.{planOf, Fit, Room}
+use Rattle.calls.specs.Plan.{planOf, Fit}
+use Rattle.forward_visits.specs.Layout.{Room}
 use Rattle.forward_dynamics.specs.Checks.{inputsVerdict}
 use Rattle.forward_visits.specs.Kernel.{visitOf}
 use Rattle.forward_dynamics.specs.declared.forward_dynamics.Mode.{Mode}
 use Rattle.forward_dynamics.specs.declared.forward_dynamics.Mode.the-variants.{Fixed, Floating}
-use Rattle.forward_visits.specs.declared.plan.Plan.{Plan}
+use Rattle.calls.specs.declared.plan.Plan.{Plan}
 
 -- whether the root floats, its rotation, and the base's velocity in the world
 abbrev pub floats : Mode → Bool

@@ -5,12 +5,11 @@ ghost use lib.Dec.{eqb};
 ghost use lib.ListN.{length};
 ghost use Rattle.arm.specs.Topology.{activesOf, activeNumbers};
 ghost use Rattle.refusals.specs.Refusals.{lowest};
-ghost use Rattle.forward_visits.specs.Plan.{planBy};
 ghost use Rattle.forward_dynamics.specs.Checks.{wildNumber, lowerIf, aboveAt, wildLoad, leastTo, motionVerdict, forcesVerdict, loadsVerdict, rootVerdict, restVerdict, inputsVerdict};
 use arm::model;
 use arm::topology;
 use calls::checks;
-use forward_visits::plan::Plan;
+use calls::plan;
 use numbers::double;
 use numbers::quaternion::Quaternion;
 use refusals;
@@ -176,24 +175,6 @@ fn judged_rest<'a>(
     )
 }
 
-pub fn plan(floating: bool, n: usize, a: usize) -> Plan
-    requires { ⌜ a ≤ 32 ⌝ }
-    ensures { λ r. ⌜ r ≡ planBy floating n a ⌝ }
-{
-    if floating {
-        return Plan {
-            n,
-            lead: 6,
-            side: 6 + a,
-        };
-    }
-    Plan {
-        n,
-        lead: 0,
-        side: a,
-    }
-}
-
 // 9 to 22.
 pub fn judged<'a>(
     floating: bool,
@@ -225,7 +206,7 @@ pub fn judged<'a>(
     let Verdict::Fine = values else {
         return values;
     };
-    let p = plan(floating, n, a);
+    let p = plan::planned(floating, n, a);
     let side = p.side;
     judged_rest(
         n,

@@ -14,13 +14,14 @@ use crate::checks;
 use arm::model::Model;
 use arm::topology;
 use articulated::root;
+use calls::plan;
+use calls::plan::Plan;
 use calls::position;
 use calls::position::Answer;
 use calls::position::Outcome;
 use calls::position::Position;
 use calls::position::Progress;
 use forward_visits::kernel;
-use forward_visits::plan::Plan;
 use numbers::quaternion::Quaternion;
 use refusals::Verdict;
 use spatial::twist::Twist;
@@ -299,7 +300,7 @@ pub fn portion<'a>(
         Verdict::Refused(number, place) => position.refused(number, place),
         Verdict::Fine => {
             let a = topology::number_at(&m.kinds, &numbers, n);
-            let p = checks::plan(floating, n, a);
+            let p = plan::planned(floating, n, a);
             let velocity = root::root_velocity(rotation, base);
             let s = run(
                 p,
@@ -366,7 +367,7 @@ pub fn forward_dynamics<'a>(
         Verdict::Refused(number, place) => Position::shut(false, floating).refused(number, place),
         Verdict::Fine => {
             let a = topology::number_at(&m.kinds, &numbers, n);
-            let p = checks::plan(floating, n, a);
+            let p = plan::planned(floating, n, a);
             let velocity = root::root_velocity(rotation, base);
             let from = Position::fresh(false, floating, n, a);
             let all = position::visits(false, n, a);

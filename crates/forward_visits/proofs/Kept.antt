@@ -26,7 +26,7 @@ use Rattle.forward_visits.specs.Loads.{loadsTo}
 use Rattle.forward_visits.specs.Root.{putRoot, begunOf, keptBase, floatingRoot, rootVisit}
 use Rattle.forward_visits.specs.Third.{keptJoint, solvedJoint, thirdVisit}
 use Rattle.forward_visits.specs.Kernel.{outcomeOf, passVisit, visitOf}
-use Rattle.forward_visits.specs.declared.plan.Plan.{Plan}
+use Rattle.calls.specs.declared.plan.Plan.{Plan}
 
 -- ---- lengths
 

@@ -16,7 +16,7 @@ use Rattle.forward_visits.specs.First.{firstVisit}
 use Rattle.forward_visits.specs.Second.{secondVisit}
 use Rattle.forward_visits.specs.Root.{begunOf, rootVisit}
 use Rattle.forward_visits.specs.Third.{thirdVisit}
-use Rattle.forward_visits.specs.declared.plan.Plan.{Plan}
+use Rattle.calls.specs.declared.plan.Plan.{Plan}
 
 -- the last visit accepts
 unfoldable pub outcomeOf : Verdict → Bool → Outcome

@@ -1,4 +1,4 @@
-pub mod Plan
+pub mod Layout
 pub mod Loads
 pub mod First
 pub mod Second

@@ -16,7 +16,7 @@ use Rattle.articulated.specs.Root.{fixedAcceleration, baseOf}
 use Rattle.articulated.specs.declared.root.Base.{Base}
 use Rattle.forward_visits.specs.Loads.{loadOf, loadsTo}
 use Rattle.forward_visits.specs.Second.{unlessRefused}
-use Rattle.forward_visits.specs.declared.plan.Plan.{Plan}
+use Rattle.calls.specs.declared.plan.Plan.{Plan}
 
 -- the root's own inertia and bias force; `velocity` is the root's
 unfoldable pub putRoot : ℕ → Twist → List Float → Wrench → List Float → List Float

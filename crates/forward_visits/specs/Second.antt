@@ -18,7 +18,7 @@ use Rattle.arm.specs.Topology.{activesOf}
 use Rattle.inertia.specs.Inertia.{reduceOf, inertiaToParent}
 use Rattle.articulated.specs.Second.{termOf, judgedTerm, carriedForce, reducedForce}
 use Rattle.articulated.specs.declared.second.Term.{Term}
-use Rattle.forward_visits.specs.declared.plan.Plan.{Plan}
+use Rattle.calls.specs.declared.plan.Plan.{Plan}
 
 unfoldable pub termAt : List Float → ℕ → Term
 termAt s at = record { u = wrenchAt s at; d = getD s (at + 6) nan; bias = getD s (at + 7) nan }

@@ -16,7 +16,7 @@ use Rattle.arm.specs.Topology.{activesOf}
 use Rattle.articulated.specs.Third.{carriedAcceleration, jointAcceleration, movedBy}
 use Rattle.forward_visits.specs.First.{parentTwist}
 use Rattle.forward_visits.specs.Second.{termAt}
-use Rattle.forward_visits.specs.declared.plan.Plan.{Plan}
+use Rattle.calls.specs.declared.plan.Plan.{Plan}
 
 -- joint j's link before the joint's own acceleration
 unfoldable pub carriedAt : ℕ → List ℕ → ℕ → List Float → Twist

@@ -4,13 +4,14 @@ ghost use Prim.Native.Nat.{_+_, _*_, _≤_, _<_};
 ghost use lib.ListN.{length};
 ghost use Rattle.arm.specs.Model.{bundle};
 ghost use Rattle.arm.specs.Topology.{activesOf};
-ghost use Rattle.forward_visits.specs.Plan.{Fit, Room};
+ghost use Rattle.calls.specs.Plan.{Fit};
+ghost use Rattle.forward_visits.specs.Layout.{Room};
 ghost use Rattle.forward_visits.specs.First.{parentTwist, putFirst, firstAt, firstVisit};
-use crate::plan::Plan;
 use arm::model;
 use arm::topology;
 use articulated::first;
 use articulated::first::First;
+use calls::plan::Plan;
 use spatial::twist::Twist;
 
 // The twist of a parent link: the root's, or the one at an offset of the parent's joint.

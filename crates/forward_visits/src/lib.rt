@@ -2,7 +2,6 @@
 pub mod first;
 pub mod kernel;
 pub mod loads;
-pub mod plan;
 pub mod root;
 pub mod second;
 pub mod third;

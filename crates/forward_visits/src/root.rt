@@ -2,14 +2,14 @@
 ghost use mathlib.Core.Path.{_≡_};
 ghost use Prim.Native.Nat.{_+_, _*_, _≤_};
 ghost use lib.ListN.{length};
-ghost use Rattle.forward_visits.specs.Plan.{Room};
+ghost use Rattle.forward_visits.specs.Layout.{Room};
 ghost use Rattle.forward_visits.specs.Root.{putRoot, begunOf, baseAt, floatingRoot, rootVisit};
 use crate::loads;
-use crate::plan::Plan;
 use arm::model;
 use articulated::first;
 use articulated::root;
 use articulated::root::Base;
+use calls::plan::Plan;
 use numbers::quaternion::Quaternion;
 use refusals::Verdict;
 use spatial::twist::Twist;

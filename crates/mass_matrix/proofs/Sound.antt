@@ -27,10 +27,11 @@ use Rattle.calls.proofs.Kept.{either-way}
 use Rattle.mass_matrix.specs.Composite.{putComposite}
 use Rattle.mass_matrix.specs.Kernel.{begunOf, frameVisit, addInto, compositeVisit, baseRows, columnVisit, holdsOf, columnFound, loadsTo, rootColumns, rootVisit, jointVisit, visitOf}
 use Rattle.mass_matrix.specs.MassMatrix.{floats, rotationOf, massMatrix}
-use Rattle.mass_matrix.specs.Plan.{planBy, planOf, putPair, putSix}
+use Rattle.calls.specs.Plan.{planBy, planOf}
+use Rattle.mass_matrix.specs.Plan.{putPair, putSix}
 use Rattle.mass_matrix.specs.Walk.{putEntry, walkStep, climb, walkOf}
 use Rattle.mass_matrix.specs.declared.mass_matrix.Mode.{Mode}
-use Rattle.mass_matrix.specs.declared.plan.Plan.{Plan}
+use Rattle.calls.specs.declared.plan.Plan.{Plan}
 use Rattle.mass_matrix.proofs.mass_matrix.Ready.{visit-open}
 
 -- ---- lengths

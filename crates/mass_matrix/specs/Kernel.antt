@@ -27,7 +27,7 @@ use Rattle.calls.specs.declared.position.Outcome.the-variants.{Open, Accepted, 
 use Rattle.mass_matrix.specs.Composite.{compositeAt, putComposite, toParentOf, joinedOf, forceOf}
 use Rattle.mass_matrix.specs.Plan.{placeOf, putSix}
 use Rattle.mass_matrix.specs.Walk.{walkOf}
-use Rattle.mass_matrix.specs.declared.plan.Plan.{Plan}
+use Rattle.calls.specs.declared.plan.Plan.{Plan}
 
 -- what the Rust sets before its loops comes with the first visit: the matrix is +0.0, and a floating root has its own link's numbers
 unfoldable pub begunOf : Plan → List Float → ℕ → List Float → List Float

@@ -17,10 +17,11 @@ use Rattle.calls.specs.Checks.{valuesVerdict, turnsVerdict, badRotation}
 use Rattle.calls.specs.Position.{Work}
 use Rattle.calls.specs.declared.position.Position.{Position}
 use Rattle.mass_matrix.specs.Kernel.{visitOf}
-use Rattle.mass_matrix.specs.Plan.{planOf, Fit, Room}
+use Rattle.calls.specs.Plan.{planOf, Fit}
+use Rattle.mass_matrix.specs.Plan.{Room}
 use Rattle.mass_matrix.specs.declared.mass_matrix.Mode.{Mode}
 use Rattle.mass_matrix.specs.declared.mass_matrix.Mode.the-variants.{Fixed, Floating}
-use Rattle.mass_matrix.specs.declared.plan.Plan.{Plan}
+use Rattle.calls.specs.declared.plan.Plan.{Plan}
 
 -- 13, 17, and 22 with a floating root
 unfoldable pub restVerdict : ℕ → ℕ → Bool → Quaternion → List ℕ → List Float → ℕ → Verdict

@@ -1,21 +1,10 @@
--- The sizes of one matrix and the places of its entries: column by column, behind the joints' 32 numbers each and the root's 64. Definitions only.
-use mathlib.Core.Bool.{Bool, cond}
+-- The places of a matrix's entries: column by column, behind the joints' 32 numbers each and the root's 64. Definitions only.
 use mathlib.Core.List.{List}
-use mathlib.Core.Path.{_≡_}
 use Prim.Native.Nat.{ℕ, _+_, _*_, _≤_}
 use lib.ListN.{set}
 use lib.Ieee.{Float}
 use Rattle.spatial.specs.declared.wrench.Wrench.{Wrench}
-use Rattle.arm.specs.Model.{Good}
-use Rattle.arm.specs.Topology.{activesOf, activeNumbers}
-use Rattle.mass_matrix.specs.declared.plan.Plan.{Plan}
-
--- G is a, or a + 6 with a floating root
-unfoldable pub planBy : Bool → ℕ → ℕ → Plan
-planBy floating n a = let lead = cond {A = ℕ} floating 6 0 in record { n = n; lead = lead; side = lead + a }
-
-abbrev pub planOf : Bool → ℕ → List ℕ → Plan
-planOf floating n kinds = planBy floating n (activesOf kinds n)
+use Rattle.calls.specs.declared.plan.Plan.{Plan}
 
 -- 32n + 64 + G² numbers
 abbrev pub roomOf : Plan → ℕ
@@ -39,14 +28,6 @@ putSix p column w ws =
     (putPair p 0 column (w .torque .x) ws)))))
 
 -- ---- what the steps of the code promise each other
-
--- the plan fits a model's lists
-pub record Fit (p : Plan) (parents kinds numbers : List ℕ) : Type 0 where
-  pub good : Good (p .n) parents kinds
-  pub counted : numbers ≡ activeNumbers kinds
-  pub led : p .lead ≤ 6
-  pub whole : (p .lead ≡ 0 → ⊥) → 6 ≤ p .lead
-  pub sided : p .side ≡ p .lead + activesOf kinds (p .n)
 
 -- a workspace has room for it
 pub record Room (p : Plan) (ws : ℕ) : Type 0 where

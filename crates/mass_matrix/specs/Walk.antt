@@ -15,7 +15,7 @@ use Rattle.arm.specs.Topology.{activesOf}
 use Rattle.arm.specs.declared.joint.Motion.{Motion}
 use Rattle.arm.specs.declared.joint.Motion.the-variants.{Turn, Slide, Fixed}
 use Rattle.mass_matrix.specs.Plan.{putPair}
-use Rattle.mass_matrix.specs.declared.plan.Plan.{Plan}
+use Rattle.calls.specs.declared.plan.Plan.{Plan}
 
 -- S·F, what a wrench gives along a motion
 unfoldable pub entryOf : Motion → Wrench → Float

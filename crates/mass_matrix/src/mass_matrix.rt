@@ -8,14 +8,14 @@ ghost use Rattle.arm.specs.Topology.{activesOf, activeNumbers};
 ghost use Rattle.calls.specs.Position.{positionVerdict, landed, stepBy, iterate, opening, startOf, portionOf, wholeOf};
 ghost use Rattle.refusals.specs.Refusals.{orElse};
 ghost use Rattle.mass_matrix.specs.Kernel.{visitOf};
-ghost use Rattle.mass_matrix.specs.Plan.{planBy};
 ghost use Rattle.mass_matrix.specs.MassMatrix.{floats, rotationOf, restVerdict, inputsVerdict, massMatrix, Ready, Within};
 use crate::kernel;
-use crate::plan::Plan;
 use arm::model;
 use arm::model::Model;
 use arm::topology;
 use calls::checks;
+use calls::plan;
+use calls::plan::Plan;
 use calls::position;
 use calls::position::Answer;
 use calls::position::Outcome;
@@ -61,24 +61,6 @@ impl Mode {
     }
 }
 
-fn plan(floating: bool, n: usize, a: usize) -> Plan
-    requires { ⌜ a ≤ 32 ⌝ }
-    ensures { λ r. ⌜ (r ≡ planBy floating n a) × (r .side ≤ 38) ⌝ }
-{
-    if floating {
-        return Plan {
-            n,
-            lead: 6,
-            side: 6 + a,
-        };
-    }
-    Plan {
-        n,
-        lead: 0,
-        side: a,
-    }
-}
-
 // 13, 17 and 22.
 fn judged_rest<'a>(
     n: usize,
@@ -118,7 +100,7 @@ fn judged<'a>(
         return Verdict::Refused(9, Place::Nothing);
     }
     let a = topology::number_at(kinds, numbers, n);
-    let p = plan(floating, n, a);
+    let p = plan::planned(floating, n, a);
     let side = p.side;
     if ws < n * 32 + 64 + side * side {
         return Verdict::Refused(10, Place::Nothing);
@@ -303,7 +285,7 @@ pub fn portion(
         Verdict::Refused(number, place) => position.refused(number, place),
         Verdict::Fine => {
             let a = topology::number_at(&m.kinds, &numbers, n);
-            let p = plan(floating, n, a);
+            let p = plan::planned(floating, n, a);
             let s = run(
                 p,
                 r,
@@ -348,7 +330,7 @@ pub fn mass_matrix(m: Model, mode: Mode, q: &[f64], ws: &mut [f64], out: &mut [f
         Verdict::Refused(number, place) => Position::shut(true, floating).refused(number, place),
         Verdict::Fine => {
             let a = topology::number_at(&m.kinds, &numbers, n);
-            let p = plan(floating, n, a);
+            let p = plan::planned(floating, n, a);
             let from = Position::fresh(true, floating, n, a);
             let all = position::visits(true, n, a);
             slots::clear(ws);

@@ -1,20 +1,15 @@
-// The sizes of one matrix, and where its entries stand in the workspace.
+// Where a matrix's entries stand in the workspace.
 ghost use mathlib.Core.Path.{_≡_};
 ghost use Prim.Native.Nat.{_+_, _*_, _≤_, _<_};
 ghost use lib.ListN.{length};
 ghost use Rattle.arm.specs.Model.{kindOf};
 ghost use Rattle.slots.specs.Slots.{putWrench};
 ghost use Rattle.arm.specs.Topology.{activesOf};
-ghost use Rattle.mass_matrix.specs.Plan.{Fit, Room, placeOf, putPair, putSix};
+ghost use Rattle.calls.specs.Plan.{Fit};
+ghost use Rattle.mass_matrix.specs.Plan.{Room, placeOf, putPair, putSix};
 use arm::topology;
+use calls::plan::Plan;
 use spatial::wrench::Wrench;
-
-// The joint count, how many rows the base has (0 or 6), and how many the matrix has.
-pub struct Plan {
-    pub n: usize,
-    pub lead: usize,
-    pub side: usize,
-}
 
 // The place of a row and a column, column by column.
 fn place(p: Plan, row: usize, column: usize) -> usize

@@ -32,20 +32,21 @@ module _ (w : Work) (ws out : List Float) where
   once-whole [] h = refl
   once-whole (b ∷ more) h = absurd (omega arith)
 
-  once-begun : (budgets : List ℕ) → (length budgets ≡ 0 → ⊥) → begunIn w budgets (startOf w ws out) ≡ onceOf w budgets ws out
+  pub once-begun : (budgets : List ℕ) → (length budgets ≡ 0 → ⊥) → begunIn w budgets (startOf w ws out) ≡ onceOf w budgets ws out
   unfolding onceOf
   once-begun [] h = absurd (h refl)
   once-begun (b ∷ more) h = refl
 
-  -- a start that is refused is closed
-  pub once-shut : (budgets : List ℕ) {r : Result} → (length budgets ≡ 0 → ⊥) → r ≡ startOf w ws out → r .0 .position .closed ≡ true → ([], r) ≡ onceOf w budgets ws out
-  once-shut budgets {r} h e t = cut (r .0 .position .closed) t ∙ ap (begunIn w budgets) e ∙ once-begun budgets h
+-- a start that is refused is closed
+module _ (w : Work) (budgets : List ℕ) {r s : Result} (e : r ≡ s) where
+  pub begun-shut : r .0 .position .closed ≡ true → ([], r) ≡ begunIn w budgets s
+  begun-shut t = cut (r .0 .position .closed) t ∙ ap (begunIn w budgets) e
     where
       cut : (b : Bool) → b ≡ true → ([], r) ≡ cond b ([], r) (inPortions w budgets r)
       cut b t = rw t
 
-  pub once-open : (budgets : List ℕ) {r : Result} → (length budgets ≡ 0 → ⊥) → r ≡ startOf w ws out → r .0 .position .closed ≡ false → inPortions w budgets r ≡ onceOf w budgets ws out
-  once-open budgets {r} h e t = cut (r .0 .position .closed) t ∙ ap (begunIn w budgets) e ∙ once-begun budgets h
+  pub begun-open : r .0 .position .closed ≡ false → inPortions w budgets r ≡ begunIn w budgets s
+  begun-open t = cut (r .0 .position .closed) t ∙ ap (begunIn w budgets) e
     where
       cut : (b : Bool) → b ≡ false → inPortions w budgets r ≡ cond b ([], r) (inPortions w budgets r)
       cut b t = rw t

@@ -17,9 +17,9 @@ use Rattle.spatial.specs.declared.twist.Twist.{Twist}
 use Rattle.arm.specs.Model.{wildOf}
 use Rattle.arm.specs.Topology.{activesOf}
 use Rattle.calls.specs.Checks.{valuesVerdict}
-use Rattle.forward_visits.specs.Plan.{planBy}
+use Rattle.calls.specs.Plan.{planBy}
 use Rattle.forward_dynamics.specs.Checks.{restVerdict, inputsVerdict}
-use Rattle.forward_visits.specs.declared.plan.Plan.{Plan}
+use Rattle.calls.specs.declared.plan.Plan.{Plan}
 
 -- six times y, by a quotient and a remainder
 pub not-six : (x y : ℕ) → (x % 6 ≡ 0 → ⊥) → false ≡ eqb x (6 * y)

@@ -20,12 +20,12 @@ use Rattle.calls.specs.declared.position.Position.{Position}
 use Rattle.calls.specs.declared.position.Progress.{Progress}
 use Rattle.calls.specs.declared.position.Answer.{Answer}
 use Rattle.articulated.specs.Root.{rootVelocity}
-use Rattle.forward_visits.specs.Plan.{planBy}
+use Rattle.calls.specs.Plan.{planBy}
 use Rattle.forward_dynamics.specs.Checks.{inputsVerdict}
 use Rattle.forward_visits.specs.Kernel.{visitOf}
 use Rattle.forward_dynamics.specs.ForwardDynamics.{floats, rotationOf, baseOf, forwardDynamics}
 use Rattle.forward_dynamics.specs.declared.forward_dynamics.Mode.{Mode}
-use Rattle.forward_visits.specs.declared.plan.Plan.{Plan}
+use Rattle.calls.specs.declared.plan.Plan.{Plan}
 
 module _ (mode : Mode) (m : Model) (q qd forces : List Float) (loaded : List ℕ) (loads ws out : List Float) (floating : Bool) (rotation : Quaternion) (base : Twist)
     (ef : floating ≡ floats mode) (er : rotation ≡ rotationOf mode) (eb : base ≡ baseOf mode) where

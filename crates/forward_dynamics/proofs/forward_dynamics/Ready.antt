@@ -22,12 +22,13 @@ use Rattle.calls.specs.declared.position.Outcome.{Outcome}
 use Rattle.calls.specs.declared.position.Position.{Position}
 use Rattle.calls.specs.declared.position.Progress.{Progress}
 use Rattle.calls.proofs.Passed.{tame, not-short, as-wanted, counted, still-open}
-use Rattle.forward_visits.specs.Plan.{planBy, planOf, Fit, Room}
+use Rattle.calls.specs.Plan.{planBy, planOf, Fit}
+use Rattle.forward_visits.specs.Layout.{Room}
 use Rattle.forward_dynamics.specs.Checks.{motionVerdict, forcesVerdict, loadsVerdict, restVerdict, inputsVerdict}
 use Rattle.forward_visits.specs.Root.{begunOf}
 use Rattle.forward_visits.specs.Kernel.{outcomeOf, passVisit, visitOf}
 use Rattle.forward_dynamics.specs.ForwardDynamics.{Ready, Within}
-use Rattle.forward_visits.specs.declared.plan.Plan.{Plan}
+use Rattle.calls.specs.declared.plan.Plan.{Plan}
 
 -- ---- the checks
 

@@ -19,7 +19,7 @@ use Rattle.arm.specs.declared.model.Link.{Link}
 use Rattle.mass_matrix.specs.Composite.{compositeAt, forceOf}
 use Rattle.mass_matrix.specs.Walk.{walkOf}
 use Rattle.mass_matrix.specs.Kernel.{baseRows, columnVisit, holdsOf}
-use Rattle.mass_matrix.specs.declared.plan.Plan.{Plan}
+use Rattle.calls.specs.declared.plan.Plan.{Plan}
 
 module _ (p : Plan) (r : Quaternion) (parents kinds : List ℕ) (axes : List Float) (j : ℕ) (ws : List Float) {column : ℕ} {m : Motion} {l : Link} {f : Wrench} {out : List Float} where
   pub column-is : column ≡ p .lead + activesOf kinds j → m ≡ motionOf kinds axes j → l ≡ compositeAt ws (j * 32 + 7) → f ≡ forceOf m l →

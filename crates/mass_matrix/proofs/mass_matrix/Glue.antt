@@ -22,10 +22,10 @@ use Rattle.calls.specs.declared.position.Position.{Position}
 use Rattle.calls.specs.declared.position.Progress.{Progress}
 use Rattle.calls.specs.declared.position.Answer.{Answer}
 use Rattle.mass_matrix.specs.Kernel.{visitOf}
-use Rattle.mass_matrix.specs.Plan.{planBy}
+use Rattle.calls.specs.Plan.{planBy}
 use Rattle.mass_matrix.specs.MassMatrix.{restVerdict, inputsVerdict, floats, rotationOf, massMatrix}
 use Rattle.mass_matrix.specs.declared.mass_matrix.Mode.{Mode}
-use Rattle.mass_matrix.specs.declared.plan.Plan.{Plan}
+use Rattle.calls.specs.declared.plan.Plan.{Plan}
 
 -- ---- the checks to 22, at each way out
 

@@ -24,9 +24,10 @@ use Rattle.calls.specs.declared.position.Position.{Position}
 use Rattle.calls.specs.declared.position.Progress.{Progress}
 use Rattle.calls.proofs.Passed.{tame, not-short, as-wanted, counted, still-open}
 use Rattle.mass_matrix.specs.Kernel.{tested, rootVisit, visitOf, begunOf, rootColumns}
-use Rattle.mass_matrix.specs.Plan.{planBy, planOf, Fit, Room}
+use Rattle.calls.specs.Plan.{planBy, planOf, Fit}
+use Rattle.mass_matrix.specs.Plan.{Room}
 use Rattle.mass_matrix.specs.MassMatrix.{restVerdict, inputsVerdict, Ready, Within}
-use Rattle.mass_matrix.specs.declared.plan.Plan.{Plan}
+use Rattle.calls.specs.declared.plan.Plan.{Plan}
 
 -- ---- the checks
 

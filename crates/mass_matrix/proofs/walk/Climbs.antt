@@ -16,7 +16,7 @@ use Rattle.arm.specs.Model.{parentOf, motionOf, Tree}
 use Rattle.mass_matrix.specs.Plan.{putSix}
 use Rattle.mass_matrix.specs.Walk.{entryOf, putEntry, walkStep, climb, walkOf}
 use Rattle.mass_matrix.specs.Kernel.{baseRows}
-use Rattle.mass_matrix.specs.declared.plan.Plan.{Plan}
+use Rattle.calls.specs.declared.plan.Plan.{Plan}
 
 same-cond : {S : Type 0} (b : Bool) (x y z : S) → (b ≡ false → y ≡ z) → cond b x y ≡ cond b x z
 same-cond true x y z f = refl

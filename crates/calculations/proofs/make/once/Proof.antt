@@ -1,17 +1,16 @@
 -- `make::once` meets its contract.
-use mathlib.Core.Path.{refl, _∙_}
+use mathlib.Core.Path.{_∙_}
 use Prim.Native.Nat.{_-_, _<_}
 use native.Mathlib.Omega.{arith}
 use borrow.Author.Needs.{needs}
 use lib.ListN.{length, length-set}
-use Rattle.calculations.proofs.make.Laws.{once-whole, once-shut, once-open, first-count}
+use Rattle.calculations.proofs.make.Laws.{once-whole, once-begun, first-count}
 use Rattle.calculations.proofs.make.once.Statement.{statement}
 use Rattle.calculations.proofs.make.once.Tie as tie
 use Rattle.calculations.proofs.make.once.Reads as reads
 use Rattle.calculations.proofs.make.once.Lts as lts
-use Rattle.calculations.proofs.calculation.start.Reads as start-reads
 use Rattle.calculations.proofs.calculation.whole.Reads as whole-reads
-use Rattle.calculations.proofs.make.portions.Reads as portions-reads
+use Rattle.calculations.proofs.make.divided.Reads as divided-reads
 
 whole-requires : tie.Need-whole-requires
 whole-requires c κs = search needs
@@ -31,8 +30,8 @@ same-length-3 c = search needs
 returns : tie.Need-returns
 returns c = let b4 = c .before .before .before .before in let b7 = b4 .before .before .before in let b17 = b7 .before .before .before .before .before .before .before .before .before .before in let h : 0 < length (b17 .args .counts .now) = omega (arith, b17 .pre .1) in (rw (once-whole _ _ _ _ (b7 .if1 .taken), ← b4 .whole .ensures, first-count (b17 .args .counts .now) _ h), omega (arith, b17 .pre .1, length-set (b17 .args .counts .now) 0 (b4 .whole .result .visits)), length-set (b17 .args .counts .now) 0 (b4 .whole .result .visits))
 
-start-requires : tie.Need-start-requires
-start-requires c κs = search needs
+divided-requires : tie.Need-divided-requires
+divided-requires c κs = search needs
 
 same-length-4 : tie.Need-same-length-4
 same-length-4 c = search needs
@@ -40,23 +39,11 @@ same-length-4 c = search needs
 same-length-5 : tie.Need-same-length-5
 same-length-5 c = search needs
 
-returns-2 : tie.Need-returns-2
-returns-2 c = let b4 = c .before .before .before .before in let b7 = b4 .before .before .before in (once-shut _ _ _ _ (b7 .if1 .left) (b4 .start .ensures) (c .if2 .taken), search needs, refl)
-
-portions-requires : tie.Need-portions-requires
-portions-requires c κs = search needs
-
 same-length-6 : tie.Need-same-length-6
 same-length-6 c = search needs
 
-same-length-7 : tie.Need-same-length-7
-same-length-7 c = search needs
-
-same-length-8 : tie.Need-same-length-8
-same-length-8 c = search needs
-
-returns-3 : tie.Need-returns-3
-returns-3 c = let b6 = c .before .before .before .before .before .before in let b10 = b6 .before .before .before .before in let b14 = b10 .before .before .before .before in let b17 = b14 .before .before .before in (b6 .portions .ensures .0 ∙ once-open _ _ _ _ (b17 .if1 .left) (b14 .start .ensures) (b10 .if2 .left), b6 .portions .ensures .1, b6 .portions .ensures .2)
+returns-2 : tie.Need-returns-2
+returns-2 c = let b6 = c .before .before .before .before .before .before in let b10 = b6 .before .before .before .before in (b6 .divided .ensures .0 ∙ once-begun _ _ _ _ (b10 .if1 .left), b6 .divided .ensures .1, b6 .divided .ensures .2)
 
 pub once-spec : {M : Type 1} → statement M
 once-spec =
@@ -68,12 +55,8 @@ once-spec =
     same-length-2
     same-length-3
     returns
-    start-requires
+    divided-requires
     same-length-4
     same-length-5
-    returns-2
-    portions-requires
     same-length-6
-    same-length-7
-    same-length-8
-    returns-3)
+    returns-2)

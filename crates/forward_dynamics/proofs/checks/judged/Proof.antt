@@ -37,14 +37,14 @@ enum-told-2 c = search needs
 returns-3 : tie.Need-returns-3
 returns-3 c = let b2 = c .before .before in let b4 = b2 .before .before in let b5 = b4 .before in let b6 = b5 .before in let b12 = b6 .before .before .before .before .before .before in refuses-values (b12 .args .floating) (b12 .args .rotation) (b12 .args .base) (b12 .args .n) (b12 .args .parents .now) (b12 .args .kinds .now) (b12 .args .q .now) (b12 .args .qd .now) (b12 .args .forces .now) (b12 .args .loaded .now) (b12 .args .loads .now) (b12 .args .ws) (b12 .args .out) _ (b6 .wild .ensures .0) (b5 .if1 .left) _ (b4 .if2 .left) (b2 .check-values .ensures) _ _ (c .enum-told2 .given .1)
 
-plan-requires : tie.Need-plan-requires
-plan-requires c κs = let b3 = c .before .before .before in let b5 = b3 .before .before in let b6 = b5 .before in let b12 = b6 .before .before .before .before .before .before in let g = b6 .wild .ensures .1 (b5 .if1 .left) in omega (arith, b3 .number-at .ensures, actives-le (b12 .args .kinds .now) (b12 .args .n), g .tree .few)
+planned-requires : tie.Need-planned-requires
+planned-requires c κs = let b3 = c .before .before .before in let b5 = b3 .before .before in let b6 = b5 .before in let b12 = b6 .before .before .before .before .before .before in let g = b6 .wild .ensures .1 (b5 .if1 .left) in omega (arith, b3 .number-at .ensures, actives-le (b12 .args .kinds .now) (b12 .args .n), g .tree .few)
 
 judged-rest-requires : tie.Need-judged-rest-requires
 judged-rest-requires c κs = let b1 = c .before in let b3 = b1 .before .before in let b4 = b3 .before in let b6 = b4 .before .before in let b7 = b6 .before in let b13 = b7 .before .before .before .before .before .before in let g = b7 .wild .ensures .1 (b6 .if1 .left) in (b13 .pre, g .tree .few, b4 .number-at .ensures, counted 11 12 _ _ _ (sym (b3 .check-values .ensures) ∙ b1 .enum-told .given .1))
 
 returns-4 : tie.Need-returns-4
-returns-4 c = let b1 = c .before in let b2 = b1 .before in let b4 = b2 .before .before in let b5 = b4 .before in let b6 = b5 .before in let b7 = b6 .before in let b8 = b7 .before in let b14 = b8 .before .before .before .before .before .before in goes-on (b14 .args .floating) (b14 .args .rotation) (b14 .args .base) (b14 .args .n) (b14 .args .parents .now) (b14 .args .kinds .now) (b14 .args .q .now) (b14 .args .qd .now) (b14 .args .forces .now) (b14 .args .loaded .now) (b14 .args .loads .now) (b14 .args .ws) (b14 .args .out) _ (b8 .wild .ensures .0) (b7 .if1 .left) _ (b6 .if2 .left) (b4 .check-values .ensures) _ _ _ (b2 .enum-told .given .1) (b5 .number-at .ensures) (b1 .plan .ensures) (c .judged-rest .ensures)
+returns-4 c = let b1 = c .before in let b2 = b1 .before in let b4 = b2 .before .before in let b5 = b4 .before in let b6 = b5 .before in let b7 = b6 .before in let b8 = b7 .before in let b14 = b8 .before .before .before .before .before .before in goes-on (b14 .args .floating) (b14 .args .rotation) (b14 .args .base) (b14 .args .n) (b14 .args .parents .now) (b14 .args .kinds .now) (b14 .args .q .now) (b14 .args .qd .now) (b14 .args .forces .now) (b14 .args .loaded .now) (b14 .args .loads .now) (b14 .args .ws) (b14 .args .out) _ (b8 .wild .ensures .0) (b7 .if1 .left) _ (b6 .if2 .left) (b4 .check-values .ensures) _ _ _ (b2 .enum-told .given .1) (b5 .number-at .ensures) (b1 .planned .ensures .0) (c .judged-rest .ensures)
 
 pub judged-spec : {M : Type 1} → statement M
 judged-spec =
@@ -60,6 +60,6 @@ judged-spec =
     enum-told
     enum-told-2
     returns-3
-    plan-requires
+    planned-requires
     judged-rest-requires
     returns-4)

@@ -11,7 +11,7 @@ use Rattle.calls.proofs.Steps.{iterate-next, step-open, run-closed}
 use Rattle.numbers.specs.declared.quaternion.Quaternion.{Quaternion}
 use Rattle.spatial.specs.declared.twist.Twist.{Twist}
 use Rattle.arm.specs.Model.{bundle}
-use Rattle.forward_visits.specs.declared.plan.Plan.{Plan}
+use Rattle.calls.specs.declared.plan.Plan.{Plan}
 use Rattle.forward_dynamics.specs.ForwardDynamics.{Within}
 use Rattle.forward_dynamics.proofs.forward_dynamics.run.Statement.{statement}
 use Rattle.forward_dynamics.proofs.forward_dynamics.run.Tie as tie

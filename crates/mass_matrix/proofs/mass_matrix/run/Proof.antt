@@ -12,7 +12,7 @@ use Rattle.calls.proofs.Steps.{iterate-next, step-open, run-closed}
 use Rattle.mass_matrix.specs.MassMatrix.{Within}
 use Rattle.numbers.specs.declared.quaternion.Quaternion.{Quaternion}
 use Rattle.calls.specs.Position.{State}
-use Rattle.mass_matrix.specs.declared.plan.Plan.{Plan}
+use Rattle.calls.specs.declared.plan.Plan.{Plan}
 use Rattle.mass_matrix.proofs.mass_matrix.run.Statement.{statement}
 use Rattle.mass_matrix.proofs.mass_matrix.run.Tie as tie
 

@@ -1,9 +1,9 @@
 use native.Mathlib.Omega.{arith}
 use borrow.Author.Needs.{needs}
 use native.Mathlib.Nat.{zero-add}
-use Rattle.mass_matrix.specs.Plan.{planBy}
-use Rattle.mass_matrix.proofs.mass_matrix.plan.Statement.{statement}
-use Rattle.mass_matrix.proofs.mass_matrix.plan.Tie as tie
+use Rattle.calls.specs.Plan.{planBy}
+use Rattle.calls.proofs.plan.planned.Statement.{statement}
+use Rattle.calls.proofs.plan.planned.Tie as tie
 
 add-t5 : tie.Need-add-t5
 add-t5 c = search needs
@@ -16,5 +16,5 @@ returns-2 : tie.Need-returns-2
 unfolding planBy
 returns-2 c = let b1 = c .before in (rw (c .if1 .left, zero-add), omega (arith, b1 .pre))
 
-pub plan-spec : {M : Type 1} → statement M
-plan-spec = tie.close (tie.spec add-t5 returns returns-2)
+pub planned-spec : {M : Type 1} → statement M
+planned-spec = tie.close (tie.spec add-t5 returns returns-2)
