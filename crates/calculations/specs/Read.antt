@@ -23,20 +23,20 @@ use Rattle.calculations.specs.declared.read.Kind.{Kind}
 use Rattle.calculations.specs.declared.read.Kind.the-variants.{Matrix, FloatingMatrix, Forward, FloatingForward}
 use Rattle.calculations.specs.declared.read.Named.{Named}
 use Rattle.calculations.specs.declared.read.Named.the-variants.{Is, No}
-use Rattle.calculations.specs.declared.read.Flag.{Flag}
-use Rattle.calculations.specs.declared.read.Flag.the-variants as flag·
-use Rattle.calculations.specs.declared.read.Place.{Place}
-use Rattle.calculations.specs.declared.read.Place.the-variants as place·
-use Rattle.calculations.specs.declared.read.Word.{Word}
-use Rattle.calculations.specs.declared.read.Word.the-variants as word·
-use Rattle.calculations.specs.declared.read.Chosen.{Chosen}
-use Rattle.calculations.specs.declared.read.Chosen.the-variants as chosen·
+use Rattle.calculations.specs.declared.read.NextFlag.{NextFlag}
+use Rattle.calculations.specs.declared.read.NextFlag.the-variants as flag·
+use Rattle.calculations.specs.declared.read.NextPosition.{NextPosition}
+use Rattle.calculations.specs.declared.read.NextPosition.the-variants as position·
+use Rattle.calculations.specs.declared.read.NextKind.{NextKind}
+use Rattle.calculations.specs.declared.read.NextKind.the-variants as kind·
+use Rattle.calculations.specs.declared.read.NextCalculation.{NextCalculation}
+use Rattle.calculations.specs.declared.read.NextCalculation.the-variants as calculation·
 use Rattle.calculations.specs.declared.read.Sizes.{Sizes}
-use Rattle.calculations.specs.declared.read.Given.{Given}
-use Rattle.calculations.specs.declared.read.Given.the-variants as given·
+use Rattle.calculations.specs.declared.read.NextInputs.{NextInputs}
+use Rattle.calculations.specs.declared.read.NextInputs.the-variants as inputs·
 use Rattle.calculations.specs.declared.read.Lent.{Lent}
-use Rattle.calculations.specs.declared.read.Lending.{Lending}
-use Rattle.calculations.specs.declared.read.Lending.the-variants as lending·
+use Rattle.calculations.specs.declared.read.LastLent.{LastLent}
+use Rattle.calculations.specs.declared.read.LastLent.the-variants as lengths·
 
 -- ---- the calculation
 
@@ -131,45 +131,45 @@ position = do
   give (record { matrix = matrix; floating = floating; n = n; a = a; visits = visits; closed = closed })
 
 -- ---- what the functions have read of the line s, and that the cursor stands in a line of n bytes
-abbrev pub flagRead : List ℕ → Flag → Option (Bool × List (List ℕ))
+abbrev pub flagRead : List ℕ → NextFlag → Option (Bool × List (List ℕ))
 flagRead s (flag·.Is b c) = some (b, wordsAt s c)
 flagRead s flag·.No = none
 
-abbrev pub FlagIn : Flag → ℕ → Type 0
+abbrev pub FlagIn : NextFlag → ℕ → Type 0
 FlagIn (flag·.Is b c) n = c .at ≤ n
 FlagIn flag·.No n = Unit
 
-abbrev pub placeRead : List ℕ → Place → Option (Position × List (List ℕ))
-placeRead s (place·.Is p c) = some (p, wordsAt s c)
-placeRead s place·.No = none
+abbrev pub positionRead : List ℕ → NextPosition → Option (Position × List (List ℕ))
+positionRead s (position·.Is p c) = some (p, wordsAt s c)
+positionRead s position·.No = none
 
-abbrev pub PlaceIn : Place → ℕ → Type 0
-PlaceIn (place·.Is p c) n = c .at ≤ n
-PlaceIn place·.No n = Unit
+abbrev pub PositionIn : NextPosition → ℕ → Type 0
+PositionIn (position·.Is p c) n = c .at ≤ n
+PositionIn position·.No n = Unit
 
-abbrev pub wordRead : List ℕ → Word → Option (Kind × List (List ℕ))
-wordRead s (word·.Is k c) = some (k, wordsAt s c)
-wordRead s word·.No = none
+abbrev pub kindRead : List ℕ → NextKind → Option (Kind × List (List ℕ))
+kindRead s (kind·.Is k c) = some (k, wordsAt s c)
+kindRead s kind·.No = none
 
-abbrev pub WordIn : Word → ℕ → Type 0
-WordIn (word·.Is k c) n = c .at ≤ n
-WordIn word·.No n = Unit
+abbrev pub KindIn : NextKind → ℕ → Type 0
+KindIn (kind·.Is k c) n = c .at ≤ n
+KindIn kind·.No n = Unit
 
-abbrev pub chosenRead : List ℕ → Chosen → Option (Calculation × List (List ℕ))
-chosenRead s (chosen·.Is k c) = some (k, wordsAt s c)
-chosenRead s chosen·.No = none
+abbrev pub calculationRead : List ℕ → NextCalculation → Option (Calculation × List (List ℕ))
+calculationRead s (calculation·.Is k c) = some (k, wordsAt s c)
+calculationRead s calculation·.No = none
 
-abbrev pub ChosenIn : Chosen → ℕ → Type 0
-ChosenIn (chosen·.Is k c) n = c .at ≤ n
-ChosenIn chosen·.No n = Unit
+abbrev pub CalculationIn : NextCalculation → ℕ → Type 0
+CalculationIn (calculation·.Is k c) n = c .at ≤ n
+CalculationIn calculation·.No n = Unit
 
 -- the first items of the lent lists
 abbrev pub inputsFrom : Sizes → List Float → List Float → List Float → List ℕ → List Float → Inputs
 inputsFrom k q qd forces loaded loads = inputsBy (take (k .q) q) (take (k .qd) qd) (take (k .forces) forces) (take (k .loaded) loaded) (take (k .loads) loads)
 
-abbrev pub givenRead : List ℕ → Given → List Float → List Float → List Float → List ℕ → List Float → Option (Inputs × List (List ℕ))
-givenRead s (given·.Is k c) q qd forces loaded loads = some (inputsFrom k q qd forces loaded loads, wordsAt s c)
-givenRead s given·.No q qd forces loaded loads = none
+abbrev pub inputsRead : List ℕ → NextInputs → List Float → List Float → List Float → List ℕ → List Float → Option (Inputs × List (List ℕ))
+inputsRead s (inputs·.Is k c) q qd forces loaded loads = some (inputsFrom k q qd forces loaded loads, wordsAt s c)
+inputsRead s inputs·.No q qd forces loaded loads = none
 
 -- the lent lists have so many
 pub record SizesIn (k : Sizes) (p d f : List Float) (l : List ℕ) (w : List Float) : Type 0 where
@@ -179,19 +179,19 @@ pub record SizesIn (k : Sizes) (p d f : List Float) (l : List ℕ) (w : List Flo
   pub loaded : k .loaded ≤ length l
   pub loads : k .loads ≤ length w
 
-abbrev pub GivenIn : Given → List Float → List Float → List Float → List ℕ → List Float → ℕ → Type 0
-GivenIn (given·.Is k c) q qd forces loaded loads n = SizesIn k q qd forces loaded loads × (c .at ≤ n)
-GivenIn given·.No q qd forces loaded loads n = Unit
+abbrev pub InputsIn : NextInputs → List Float → List Float → List Float → List ℕ → List Float → ℕ → Type 0
+InputsIn (inputs·.Is k c) q qd forces loaded loads n = SizesIn k q qd forces loaded loads × (c .at ≤ n)
+InputsIn inputs·.No q qd forces loaded loads n = Unit
 
 -- QD F LINKS LOADS, behind any Q of at least n numbers, the first n of which were read
-abbrev pub RestRead : List ℕ → Cursor → ℕ → Given → List Float → List Float → List ℕ → List Float → Type 0
+abbrev pub RestRead : List ℕ → Cursor → ℕ → NextInputs → List Float → List Float → List ℕ → List Float → Type 0
 RestRead s c n r qd forces loaded loads =
-    (q : List Float) → n ≤ length q → (givenRead s r q qd forces loaded loads ≡ rest (take n q) (wordsAt s c)) × GivenIn r q qd forces loaded loads (length s)
+    (q : List Float) → n ≤ length q → (inputsRead s r q qd forces loaded loads ≡ rest (take n q) (wordsAt s c)) × InputsIn r q qd forces loaded loads (length s)
 
-abbrev pub lendingRead : Lending → List ℕ → Option (Lengths × List (List ℕ))
-lendingRead (lending·.Is l) budgets = some (record { ws = l .ws; out = l .out; budgets = take (l .budgets) budgets }, [])
-lendingRead lending·.No budgets = none
+abbrev pub lengthsRead : LastLent → List ℕ → Option (Lengths × List (List ℕ))
+lengthsRead (lengths·.Is l) budgets = some (record { ws = l .ws; out = l .out; budgets = take (l .budgets) budgets }, [])
+lengthsRead lengths·.No budgets = none
 
-abbrev pub LendingIn : Lending → List ℕ → Type 0
-LendingIn (lending·.Is l) budgets = (l .ws ≤ 4096) × (l .out ≤ 2048) × (l .budgets ≤ 4096) × (l .budgets ≤ length budgets)
-LendingIn lending·.No budgets = Unit
+abbrev pub LengthsIn : LastLent → List ℕ → Type 0
+LengthsIn (lengths·.Is l) budgets = (l .ws ≤ 4096) × (l .out ≤ 2048) × (l .budgets ≤ 4096) × (l .budgets ≤ length budgets)
+LengthsIn lengths·.No budgets = Unit

@@ -3,7 +3,7 @@ ghost use mathlib.Core.Path.{_≡_};
 ghost use Prim.Native.Nat.{_≤_};
 ghost use lib.ListN.{length};
 ghost use Rattle.words.specs.Read.{wordsAt};
-ghost use Rattle.calculations.specs.Read.{kindOf, kind, rootNumbers, rotationOf, calculationBy, calculation, inputs, lengths, flag, position, flagRead, FlagIn, placeRead, PlaceIn, wordRead, WordIn, chosenRead, ChosenIn, givenRead, GivenIn, RestRead, lendingRead, LendingIn};
+ghost use Rattle.calculations.specs.Read.{kindOf, kind, rootNumbers, rotationOf, calculationBy, calculation, inputs, lengths, flag, position, flagRead, FlagIn, positionRead, PositionIn, kindRead, KindIn, calculationRead, CalculationIn, inputsRead, InputsIn, RestRead, lengthsRead, LengthsIn};
 use crate::calculation::Calculation;
 use calls::position::Position;
 use forward_dynamics::forward_dynamics as forward;
@@ -34,22 +34,22 @@ pub enum Named {
 }
 
 // What was read, with the cursor past it.
-pub enum Flag {
+pub enum NextFlag {
     Is(bool, Cursor),
     No,
 }
 
-pub enum Place {
+pub enum NextPosition {
     Is(Position, Cursor),
     No,
 }
 
-pub enum Word {
+pub enum NextKind {
     Is(Kind, Cursor),
     No,
 }
 
-pub enum Chosen {
+pub enum NextCalculation {
     Is(Calculation, Cursor),
     No,
 }
@@ -63,7 +63,7 @@ pub struct Sizes {
     pub loads: usize,
 }
 
-pub enum Given {
+pub enum NextInputs {
     Is(Sizes, Cursor),
     No,
 }
@@ -75,7 +75,7 @@ pub struct Lent {
     pub budgets: usize,
 }
 
-pub enum Lending {
+pub enum LastLent {
     Is(Lent),
     No,
 }
@@ -99,41 +99,41 @@ pub fn kind_of(w: &[u8]) -> Named
 }
 
 // 0 or 1.
-fn next_flag(s: &[u8], c: Cursor) -> Flag
+fn next_flag(s: &[u8], c: Cursor) -> NextFlag
     requires { ⌜ c .at ≤ length (now s) ⌝ }
     ensures { λ r. ⌜ (flagRead (now (s .entry)) r ≡ flag (wordsAt (now (s .entry)) c)) × FlagIn r (length (now (s .entry))) ⌝ }
 {
     let Next::Is(v, d) = next_number(s, c) else {
-        return Flag::No;
+        return NextFlag::No;
     };
     if 1 < v {
-        return Flag::No;
+        return NextFlag::No;
     }
-    Flag::Is(v == 1, d)
+    NextFlag::Is(v == 1, d)
 }
 
 // CALCULATION ROOT N A VISITS CLOSED.
-pub fn next_position(s: &[u8], c: Cursor) -> Place
+pub fn next_position(s: &[u8], c: Cursor) -> NextPosition
     requires { ⌜ c .at ≤ length (now s) ⌝ }
-    ensures { λ r. ⌜ (placeRead (now (s .entry)) r ≡ position (wordsAt (now (s .entry)) c)) × PlaceIn r (length (now (s .entry))) ⌝ }
+    ensures { λ r. ⌜ (positionRead (now (s .entry)) r ≡ position (wordsAt (now (s .entry)) c)) × PositionIn r (length (now (s .entry))) ⌝ }
 {
-    let Flag::Is(matrix, c0) = next_flag(s, c) else {
-        return Place::No;
+    let NextFlag::Is(matrix, c0) = next_flag(s, c) else {
+        return NextPosition::No;
     };
-    let Flag::Is(floating, c1) = next_flag(s, c0) else {
-        return Place::No;
+    let NextFlag::Is(floating, c1) = next_flag(s, c0) else {
+        return NextPosition::No;
     };
     let Next::Is(n, c2) = next_number(s, c1) else {
-        return Place::No;
+        return NextPosition::No;
     };
     let Next::Is(a, c3) = next_number(s, c2) else {
-        return Place::No;
+        return NextPosition::No;
     };
     let Next::Is(visits, c4) = next_number(s, c3) else {
-        return Place::No;
+        return NextPosition::No;
     };
-    let Flag::Is(closed, c5) = next_flag(s, c4) else {
-        return Place::No;
+    let NextFlag::Is(closed, c5) = next_flag(s, c4) else {
+        return NextPosition::No;
     };
     let position = Position {
         matrix,
@@ -143,20 +143,20 @@ pub fn next_position(s: &[u8], c: Cursor) -> Place
         visits: visits as usize,
         closed,
     };
-    Place::Is(position, c5)
+    NextPosition::Is(position, c5)
 }
 
-pub fn next_kind(s: &[u8], c: Cursor) -> Word
+pub fn next_kind(s: &[u8], c: Cursor) -> NextKind
     requires { ⌜ c .at ≤ length (now s) ⌝ }
-    ensures { λ r. ⌜ (wordRead (now (s .entry)) r ≡ kind (wordsAt (now (s .entry)) c)) × WordIn r (length (now (s .entry))) ⌝ }
+    ensures { λ r. ⌜ (kindRead (now (s .entry)) r ≡ kind (wordsAt (now (s .entry)) c)) × KindIn r (length (now (s .entry))) ⌝ }
 {
     let w = next_word(s, c);
     let start = w.start;
     let stop = w.stop;
     let Named::Is(k) = kind_of(&s[start..stop]) else {
-        return Word::No;
+        return NextKind::No;
     };
-    Word::Is(k, Cursor { at: stop })
+    NextKind::Is(k, Cursor { at: stop })
 }
 
 // How many numbers say how the root stands.
@@ -198,15 +198,15 @@ fn calculation_by(k: Kind, root: &[f64]) -> Calculation
 }
 
 // R and V, as far as the kind has them.
-pub fn next_calculation(s: &[u8], c: Cursor, k: Kind) -> Chosen
+pub fn next_calculation(s: &[u8], c: Cursor, k: Kind) -> NextCalculation
     requires { ⌜ c .at ≤ length (now s) ⌝ }
-    ensures { λ r. ⌜ (chosenRead (now (s .entry)) r ≡ calculation k (wordsAt (now (s .entry)) c)) × ChosenIn r (length (now (s .entry))) ⌝ }
+    ensures { λ r. ⌜ (calculationRead (now (s .entry)) r ≡ calculation k (wordsAt (now (s .entry)) c)) × CalculationIn r (length (now (s .entry))) ⌝ }
 {
     let mut root = [0.0; 10];
     let Listed::Got(n, d) = fill_doubles(s, c, root_numbers(k), &mut root) else {
-        return Chosen::No;
+        return NextCalculation::No;
     };
-    Chosen::Is(calculation_by(k, &root[..n]), d)
+    NextCalculation::Is(calculation_by(k, &root[..n]), d)
 }
 
 // QD F LINKS LOADS, behind a Q of so many.
@@ -218,21 +218,21 @@ fn next_rest(
     forces: &mut [f64; 4096],
     loaded: &mut [u64; 4096],
     loads: &mut [f64; 4096],
-) -> Given
+) -> NextInputs
     requires { ⌜ c .at ≤ length (now s) ⌝ }
     ensures { λ r. ⌜ RestRead (now (s .entry)) c q r (now (qd .exit)) (now (forces .exit)) (now (loaded .exit)) (now (loads .exit)) ⌝ }
 {
     let Listed::Got(d, c0) = doubles(s, c, qd) else {
-        return Given::No;
+        return NextInputs::No;
     };
     let Listed::Got(f, c1) = doubles(s, c0, forces) else {
-        return Given::No;
+        return NextInputs::No;
     };
     let Listed::Got(l, c2) = numbers(s, c1, loaded) else {
-        return Given::No;
+        return NextInputs::No;
     };
     let Listed::Got(w, c3) = doubles(s, c2, loads) else {
-        return Given::No;
+        return NextInputs::No;
     };
     let sizes = Sizes {
         q,
@@ -241,7 +241,7 @@ fn next_rest(
         loaded: l,
         loads: w,
     };
-    Given::Is(sizes, c3)
+    NextInputs::Is(sizes, c3)
 }
 
 pub fn next_inputs(
@@ -253,12 +253,12 @@ pub fn next_inputs(
     forces: &mut [f64; 4096],
     loaded: &mut [u64; 4096],
     loads: &mut [f64; 4096],
-) -> Given
+) -> NextInputs
     requires { ⌜ c .at ≤ length (now s) ⌝ }
-    ensures { λ r. ⌜ (givenRead (now (s .entry)) r (now (q .exit)) (now (qd .exit)) (now (forces .exit)) (now (loaded .exit)) (now (loads .exit)) ≡ inputs k (wordsAt (now (s .entry)) c)) × GivenIn r (now (q .exit)) (now (qd .exit)) (now (forces .exit)) (now (loaded .exit)) (now (loads .exit)) (length (now (s .entry))) ⌝ }
+    ensures { λ r. ⌜ (inputsRead (now (s .entry)) r (now (q .exit)) (now (qd .exit)) (now (forces .exit)) (now (loaded .exit)) (now (loads .exit)) ≡ inputs k (wordsAt (now (s .entry)) c)) × InputsIn r (now (q .exit)) (now (qd .exit)) (now (forces .exit)) (now (loaded .exit)) (now (loads .exit)) (length (now (s .entry))) ⌝ }
 {
     let Listed::Got(n, c0) = doubles(s, c, q) else {
-        return Given::No;
+        return NextInputs::No;
     };
     match k {
         Calculation::Matrix(_) => {
@@ -269,36 +269,36 @@ pub fn next_inputs(
                 loaded: 0,
                 loads: 0,
             };
-            Given::Is(sizes, c0)
+            NextInputs::Is(sizes, c0)
         }
         Calculation::Forward(_) => next_rest(s, c0, n, qd, forces, loaded, loads),
     }
 }
 
 // WS OUT PORTIONS, and no word behind them.
-pub fn last_lent(s: &[u8], c: Cursor, budgets: &mut [u64; 4096]) -> Lending
+pub fn last_lent(s: &[u8], c: Cursor, budgets: &mut [u64; 4096]) -> LastLent
     requires { ⌜ c .at ≤ length (now s) ⌝ }
-    ensures { λ r. ⌜ (lendingRead r (now (budgets .exit)) ≡ lengths (wordsAt (now (s .entry)) c)) × LendingIn r (now (budgets .exit)) ⌝ }
+    ensures { λ r. ⌜ (lengthsRead r (now (budgets .exit)) ≡ lengths (wordsAt (now (s .entry)) c)) × LengthsIn r (now (budgets .exit)) ⌝ }
 {
     let Next::Is(ws, c0) = next_number(s, c) else {
-        return Lending::No;
+        return LastLent::No;
     };
     let Next::Is(out, c1) = next_number(s, c0) else {
-        return Lending::No;
+        return LastLent::No;
     };
     let Listed::Got(n, c2) = numbers(s, c1, budgets) else {
-        return Lending::No;
+        return LastLent::No;
     };
     if !at_end(s, c2) {
-        return Lending::No;
+        return LastLent::No;
     }
     if 4096 < ws {
-        return Lending::No;
+        return LastLent::No;
     }
     if 2048 < out {
-        return Lending::No;
+        return LastLent::No;
     }
-    Lending::Is(Lent {
+    LastLent::Is(Lent {
         ws: ws as usize,
         out: out as usize,
         budgets: n,

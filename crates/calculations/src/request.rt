@@ -11,12 +11,12 @@ ghost use Rattle.calculations.specs.Request.{ones, lineOf, idleBy, calcu
 use crate::calculation::Calculation;
 use crate::make::How;
 use crate::make::make;
-use crate::read::Chosen;
-use crate::read::Given;
 use crate::read::Kind;
-use crate::read::Lending;
-use crate::read::Place;
-use crate::read::Word;
+use crate::read::LastLent;
+use crate::read::NextCalculation;
+use crate::read::NextInputs;
+use crate::read::NextKind;
+use crate::read::NextPosition;
 use crate::read::last_lent;
 use crate::read::next_calculation;
 use crate::read::next_inputs;
@@ -168,10 +168,10 @@ pub fn calculate(
     let mut loaded = number_buffer();
     let mut loads = double_buffer();
     let mut budgets = number_buffer();
-    let Chosen::Is(calculation, c0) = next_calculation(s, c, k) else {
+    let NextCalculation::Is(calculation, c0) = next_calculation(s, c, k) else {
         return error(text, at);
     };
-    let Given::Is(sizes, c1) = next_inputs(
+    let NextInputs::Is(sizes, c1) = next_inputs(
         s,
         c0,
         calculation,
@@ -183,7 +183,7 @@ pub fn calculate(
     ) else {
         return error(text, at);
     };
-    let Lending::Is(lent) = last_lent(s, c1, &mut budgets) else {
+    let LastLent::Is(lent) = last_lent(s, c1, &mut budgets) else {
         return error(text, at);
     };
     let b = lent.budgets;
@@ -220,7 +220,7 @@ pub fn repeat(m: Model, s: &[u8], c: Cursor, text: &mut [u8], at: usize) -> usiz
     let Next::Is(count, c0) = next_number(s, c) else {
         return error(text, at);
     };
-    let Word::Is(k, c1) = next_kind(s, c0) else {
+    let NextKind::Is(k, c1) = next_kind(s, c0) else {
         return error(text, at);
     };
     if count == 0 {
@@ -237,10 +237,10 @@ pub fn resume(m: Model, s: &[u8], c: Cursor, text: &mut [u8], at: usize) -> usiz
     requires { ⌜ (c .at ≤ length (now s)) × (at + room ≤ length (now text)) ⌝ }
     ensures { λ r. ⌜ (at ≤ r) × (r ≤ at + room) × (take r (now (text .exit)) ≡ take at (now (text .entry)) ++ textOf (resumeRequest m (wordsAt (now (s .entry)) c))) ⌝ }
 {
-    let Place::Is(position, c0) = next_position(s, c) else {
+    let NextPosition::Is(position, c0) = next_position(s, c) else {
         return error(text, at);
     };
-    let Word::Is(k, c1) = next_kind(s, c0) else {
+    let NextKind::Is(k, c1) = next_kind(s, c0) else {
         return error(text, at);
     };
     calculate(m, How::From(position), k, s, c1, text, at)
