@@ -72,7 +72,7 @@ builtOf n parents kinds origins axes links =
 -- ---- what the steps of the code promise each other
 
 -- 1 to 4 have passed
-pub record Sound (n : ℕ) (parents kinds : List ℕ) (axes : ℕ) : Type 0 where
+pub record Listed (n : ℕ) (parents kinds : List ℕ) (axes : ℕ) : Type 0 where
   pub good : Good n parents kinds
   pub one-parent : length parents ≡ n
   pub one-kind : length kinds ≡ n

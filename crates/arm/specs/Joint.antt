@@ -1,6 +1,7 @@
 -- A joint's motion, the rules of its axis and of its origin's rotation, and its frame (document 01, "Model" and "Number rules"). Definitions only.
 use mathlib.Core.Bool.{Bool, cond, _&&_}
 use mathlib.Core.List.{List, [], _∷_}
+use mathlib.Core.Path.{_≡_}
 use Prim.Native.Nat.{ℕ}
 use lib.Dec.{eqb}
 use lib.Ieee.{Float, ne, le, lt}
@@ -23,11 +24,19 @@ use Rattle.arm.specs.declared.joint.Motion.the-variants.{Turn, Slide, Fi
 
 -- ---- motion
 
--- the document's kind of each motion
+abbrev pub components : Vec3 → List Float
+components v = v .x ∷ v .y ∷ v .z ∷ []
+
+-- the document's kind of each motion, and its values: the axis of a turn or a slide, nothing of a fixed joint
 abbrev pub kindNumber : Motion → ℕ
 kindNumber (Turn axis) = 0
 kindNumber (Slide axis) = 1
 kindNumber Fixed = 2
+
+abbrev pub motionValues : Motion → List Float
+motionValues (Turn axis) = components axis
+motionValues (Slide axis) = components axis
+motionValues Fixed = []
 
 abbrev pub isFixed : ℕ → Bool
 isFixed kind = eqb kind (kindNumber Fixed)
@@ -36,10 +45,12 @@ isFixed kind = eqb kind (kindNumber Fixed)
 unfoldable pub motionBy : ℕ → Vec3 → Motion
 motionBy kind axis = cond (eqb kind (kindNumber (Turn axis))) (Turn axis) (cond (eqb kind (kindNumber (Slide axis))) (Slide axis) Fixed)
 
--- ---- the axis rule
+-- what a motion has to be, of a kind and an axis
+pub record MotionIs (kind : ℕ) (axis : Vec3) (motion : Motion) : Type 0 where
+  pub number : kindNumber motion ≡ kind
+  pub values : motionValues motion ≡ cond (isFixed kind) [] (components axis)
 
-abbrev pub components : Vec3 → List Float
-components v = v .x ∷ v .y ∷ v .z ∷ []
+-- ---- the axis rule
 
 -- 1e-12
 abbrev pub shortest : Float

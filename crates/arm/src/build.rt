@@ -2,7 +2,7 @@
 ghost use mathlib.Core.Path.{_≡_};
 ghost use Prim.Native.Nat.{ℕ, _*_, _≤_, _<_};
 ghost use lib.ListN.{length, getD};
-ghost use Rattle.arm.specs.Build.{Sound, byteSlots, doubleSlots, axisSlot, axisSlots, modelOf, builtOf};
+ghost use Rattle.arm.specs.Build.{Listed, byteSlots, doubleSlots, axisSlot, axisSlots, modelOf, builtOf};
 use crate::checks;
 use crate::joint::Axis;
 use crate::model;
@@ -91,7 +91,7 @@ fn filled<'a>(
     axes: &'a [f64],
     links: &'a [f64],
 ) -> Model
-    requires { ⌜ Sound n (now parents) (now kinds) (length (now axes)) ⌝ }
+    requires { ⌜ Listed n (now parents) (now kinds) (length (now axes)) ⌝ }
     ensures { λ r. ⌜ r ≡ modelOf n (now (parents .entry)) (now (kinds .entry)) (now (origins .entry)) (now (axes .entry)) (now (links .entry)) ⌝ }
 {
     let parent_slots = byte_slots(n, parents);

@@ -1,8 +1,9 @@
 // A model's numbers, and its joints and links read from them. Its lists are lent: a model by value is copied at each call.
 ghost use mathlib.Core.Bool.{false};
 ghost use mathlib.Core.Path.{_≡_};
-ghost use Prim.Native.Nat.{_≤_, _<_};
-ghost use Rattle.arm.specs.Joint.{kindNumber};
+ghost use Prim.Native.Nat.{_*_, _≤_, _<_};
+ghost use Rattle.slots.specs.Slots.{vec3At};
+ghost use Rattle.arm.specs.Joint.{MotionIs};
 ghost use Rattle.arm.specs.Model.{emptyModel, Tree, Good, parentOf, kindOf, motionOf, jointOf, linkOf, wildJoint, wildOf};
 use crate::joint::Joint;
 use crate::joint::Motion;
@@ -70,7 +71,7 @@ pub fn joint_at<'a>(
     j: usize,
 ) -> Joint
     requires { ⌜ Good n (now parents) (now kinds) × (j < n) ⌝ }
-    ensures { λ r. ⌜ (r ≡ jointOf (now (parents .entry)) (now (kinds .entry)) (now (origins .entry)) (now (axes .entry)) j) × (r .parent ≤ j) × (kindNumber (r .motion) ≡ kindOf (now (kinds .entry)) j) ⌝ }
+    ensures { λ r. ⌜ (r ≡ jointOf (now (parents .entry)) (now (kinds .entry)) (now (origins .entry)) (now (axes .entry)) j) × (r .parent ≤ j) × MotionIs (kindOf (now (kinds .entry)) j) (vec3At (now (axes .entry)) (j * 3)) (r .motion) ⌝ }
 {
     let parent = parent_at(n, parents, j);
     let motion = motion_at(kinds, axes, j);

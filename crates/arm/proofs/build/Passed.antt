@@ -12,12 +12,12 @@ use Rattle.refusals.proofs.Searches.{lowest-none}
 use Rattle.refusals.proofs.Verdicts.{named-fine, plain-fine, both-fine}
 use Rattle.arm.specs.Model.{badParent, badKind}
 use Rattle.arm.specs.Checks.{listsVerdict, verdictOf}
-use Rattle.arm.specs.Build.{Sound}
+use Rattle.arm.specs.Build.{Listed}
 use Rattle.arm.proofs.checks.Lengths.{sized-true}
 
-pub sound : (n : ℕ) (parents kinds : List ℕ) (origins axes links : List Float) → verdictOf n parents kinds origins axes links ≡ Fine → Sound n parents kinds (length axes)
+pub listed : (n : ℕ) (parents kinds : List ℕ) (origins axes links : List Float) → verdictOf n parents kinds origins axes links ≡ Fine → Listed n parents kinds (length axes)
 unfolding verdictOf listsVerdict
-sound n parents kinds origins axes links e =
+listed n parents kinds origins axes links e =
     let v1 = both-fine (plainOf 1 (ltb 32 n)) _ e in
     let v2 = both-fine (plainOf 2 _) (listsVerdict n parents kinds origins axes links) (v1 .1) in
     let v3 = both-fine (namedOf 3 (lowest (badParent parents) n)) _ (v2 .1) in

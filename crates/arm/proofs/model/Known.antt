@@ -2,7 +2,7 @@
 use mathlib.Core.Bool.{false}
 use mathlib.Core.List.{List}
 use mathlib.Core.Path.{_≡_, refl}
-use Prim.Native.Nat.{ℕ, zero, suc, _≤_, _<_}
+use Prim.Native.Nat.{ℕ, zero, suc, _*_, _≤_, _<_}
 use native.Mathlib.Omega.{arith}
 use borrow.Author.Tests.{ltb-false}
 use lib.Ieee.{Float}
@@ -11,20 +11,22 @@ use Rattle.refusals.specs.Refusals.{lowest}
 use Rattle.refusals.specs.declared.Place.the-variants.{Nothing}
 use Rattle.refusals.proofs.Flags.{neither}
 use Rattle.refusals.proofs.Searches.{lowest-none}
-use Rattle.arm.specs.Joint.{kindNumber, motionBy}
+use Rattle.slots.specs.Slots.{vec3At}
+use Rattle.arm.specs.Joint.{MotionIs, motionBy}
 use Rattle.arm.specs.Model.{Good, kindOf, badParent, badKind, motionOf, wildJoint}
+use Rattle.arm.specs.declared.joint.Motion.{Motion}
 
--- the motion of a known kind has that kind
-kind-kept : (kind : ℕ) (axis : Vec3) → kind ≤ 2 → kindNumber (motionBy kind axis) ≡ kind
+-- the motion of a known kind has that kind and the axis of a turn or a slide
+motion-is : (kind : ℕ) (axis : Vec3) → kind ≤ 2 → MotionIs kind axis (motionBy kind axis)
 unfolding motionBy
-kind-kept zero axis h = refl
-kind-kept (suc zero) axis h = refl
-kind-kept (suc (suc zero)) axis h = refl
-kind-kept (suc (suc (suc kind))) axis h = absurd (omega arith)
+motion-is zero axis h = record { number = refl; values = refl }
+motion-is (suc zero) axis h = record { number = refl; values = refl }
+motion-is (suc (suc zero)) axis h = record { number = refl; values = refl }
+motion-is (suc (suc (suc kind))) axis h = absurd (omega arith)
 
-pub motion-kind : (kinds : List ℕ) (axes : List Float) (j : ℕ) → kindOf kinds j ≤ 2 → kindNumber (motionOf kinds axes j) ≡ kindOf kinds j
+pub motion-at-is : (kinds : List ℕ) (axes : List Float) (j : ℕ) {motion : Motion} → motion ≡ motionOf kinds axes j → kindOf kinds j ≤ 2 → MotionIs (kindOf kinds j) (vec3At axes (j * 3)) motion
 unfolding motionOf
-motion-kind kinds axes j h = kind-kept _ _ h
+motion-at-is kinds axes j e h = rw e (motion-is _ _ h)
 
 pub good : (n : ℕ) (parents kinds : List ℕ) → n ≤ 32 → lowest (wildJoint parents kinds) n ≡ Nothing → Good n parents kinds
 unfolding wildJoint

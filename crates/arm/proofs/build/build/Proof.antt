@@ -1,7 +1,7 @@
 use mathlib.Core.Path.{sym, _∙_}
 use borrow.Author.Needs.{needs}
 use Rattle.arm.specs.Build.{builtOf}
-use Rattle.arm.proofs.build.Passed.{sound}
+use Rattle.arm.proofs.build.Passed.{listed}
 use Rattle.arm.proofs.build.build.Statement.{statement}
 use Rattle.arm.proofs.build.build.Tie as tie
 
@@ -12,7 +12,7 @@ enum-told : tie.Need-enum-told
 enum-told c = search needs
 
 filled-requires : tie.Need-filled-requires
-filled-requires c κs = sound _ _ _ _ _ _ (sym (c .before .before .judged .ensures) ∙ c .enum-told .given .1)
+filled-requires c κs = listed _ _ _ _ _ _ (sym (c .before .before .judged .ensures) ∙ c .enum-told .given .1)
 
 returns : tie.Need-returns
 unfolding builtOf

@@ -1,8 +1,6 @@
-use mathlib.Core.Path.{ap, _∙_}
 use borrow.Author.Needs.{needs}
 use Rattle.arm.specs.Model.{jointOf}
-use Rattle.arm.specs.Joint.{kindNumber}
-use Rattle.arm.proofs.model.Known.{motion-kind}
+use Rattle.arm.proofs.model.Known.{motion-at-is}
 use Rattle.arm.proofs.model.joint_at.Statement.{statement}
 use Rattle.arm.proofs.model.joint_at.Tie as tie
 
@@ -25,7 +23,7 @@ returns c =
     let c3 = c2 .before in
     let c4 = c3 .before in
     let o = c4 in
-    (cc, c3 .parent-at .ensures .1, ap kindNumber (c2 .motion-at .ensures) ∙ motion-kind (o .args .kinds .now) (o .args .axes .now) (o .args .j) (o .pre .0 .known (o .args .j) (o .pre .1)))
+    (cc, c3 .parent-at .ensures .1, motion-at-is (o .args .kinds .now) (o .args .axes .now) (o .args .j) (c2 .motion-at .ensures) (o .pre .0 .known (o .args .j) (o .pre .1)))
 
 pub joint-at-spec : {M : Type 1} → statement M
 joint-at-spec =
