@@ -1,4 +1,5 @@
--- Whole solves, computed: one solved, and one for each test that can refuse. Assumes nothing.
+-- Whole solves, computed: one that is solved, and seven that are refused, in the order of the tests. None is here for a scaled right side, an inverse column or
+-- a residual that is not finite. Assumes nothing.
 use mathlib.Core.Bool.{cond}
 use mathlib.Core.List.{List, [], _∷_}
 use mathlib.Core.Path.{_≡_, refl}
@@ -10,7 +11,7 @@ use Rattle.numbers.specs.Sum.{sumTo, lessTo}
 use Rattle.numbers.specs.Table.{tab}
 use Rattle.numbers.specs.Root.{rootOf}
 use Rattle.numbers.specs.Mat6.{matBy, applyOf, rowOf}
-use Rattle.numbers.specs.Cholesky.{choleskyTo, columnOf, belowTo, lessOf, forwardTo, forwardRow, backTo, backRow, solveOf}
+use Rattle.numbers.specs.Cholesky.{choleskyTo, factorColumn, belowTo, lessOf, forwardTo, forwardRow, backTo, backRow, solveOf}
 use Rattle.spatial.specs.Twist.{ofVector}
 use Rattle.base_solve.specs.BaseSolve.{solved, refusal, rootOr, aboveTo, scaleOf, scaledOf, dividedOf, overOf, differenceOf, columnSum, normTo, sizeOf, basis, nextNorm, inverseTo, residualOf, nearOf, checkedOf, solutionOf, conditionedOf, factoredOf, baseSolve}
 
@@ -52,5 +53,5 @@ pub solve-cases :
     × (baseSolve (square tiny 0·0) (six large) ≡ refusal 34)
     -- the factor reads the lower half alone, and the residual shows it
     × (baseSolve (matBy (λ i j. cond (ltb i j) 0·5 (cond (eqb i j) 1·0 0·0))) (six 1·0) ≡ refusal 34)
-unfolding baseSolve factoredOf conditionedOf solutionOf checkedOf nearOf residualOf inverseTo nextNorm basis sizeOf normTo columnSum overOf dividedOf differenceOf scaledOf scaleOf aboveTo rootOr finiteTo finite absOf maxOf amaxTo tab sumTo lessTo applyOf rowOf choleskyTo columnOf belowTo lessOf forwardTo forwardRow backTo backRow solveOf rootOf ofBits size add sub mul div lt le
+unfolding baseSolve factoredOf conditionedOf solutionOf checkedOf nearOf residualOf inverseTo nextNorm basis sizeOf normTo columnSum overOf dividedOf differenceOf scaledOf scaleOf aboveTo rootOr finiteTo finite absOf maxOf amaxTo tab sumTo lessTo applyOf rowOf choleskyTo factorColumn belowTo lessOf forwardTo forwardRow backTo backRow solveOf rootOf ofBits size add sub mul div lt le
 solve-cases = (refl, refl, refl, refl, refl, refl, refl, refl)

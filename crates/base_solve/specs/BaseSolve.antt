@@ -21,11 +21,11 @@ use Rattle.base_solve.specs.declared.Inverse.{Inverse}
 
 -- ---- the answer, by document 01's number: 0 is solved
 
-abbrev pub numberOf : Solved → ℕ
-numberOf (Of x) = 0
-numberOf Singular = 32
-numberOf IllConditioned = 33
-numberOf Numerical = 34
+abbrev pub refusalNumber : Solved → ℕ
+refusalNumber (Of x) = 0
+refusalNumber Singular = 32
+refusalNumber IllConditioned = 33
+refusalNumber Numerical = 34
 
 -- the solution; a refusal has none
 abbrev pub valuesOf : Solved → Twist
@@ -35,7 +35,7 @@ valuesOf IllConditioned = zerosOf
 valuesOf Numerical = zerosOf
 
 abbrev pub told : Solved → ℕ × Twist
-told s = (numberOf s, valuesOf s)
+told s = (refusalNumber s, valuesOf s)
 
 abbrev pub solved : Twist → ℕ × Twist
 solved x = (0, x)
@@ -83,7 +83,7 @@ overOf b g = tab (λ i. getD b i nan ⊘ g) 6
 -- the sum of the sizes of column j
 unfoldable pub columnSum : List Float → ℕ → Float
 unfolding sumTo
-columnSum a j = sumTo (λ i. absOf (cell a i j)) 5
+columnSum a j = sumTo (λ i. absOf (cell a i j)) 6
 
 -- the largest of 0 and the first n columns' sums
 unfoldable pub normTo : List Float → ℕ → Float
@@ -93,7 +93,7 @@ normTo a (suc n) = maxOf (normTo a n) (columnSum a n)
 -- the sum of the sizes of a vector
 unfoldable pub sizeOf : List Float → Float
 unfolding sumTo
-sizeOf v = sumTo (λ i. absOf (getD v i nan)) 5
+sizeOf v = sumTo (λ i. absOf (getD v i nan)) 6
 
 -- 1 at j, 0 elsewhere
 unfoldable pub basis : ℕ → List Float

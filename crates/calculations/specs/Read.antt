@@ -41,8 +41,8 @@ use Rattle.calculations.specs.declared.read.LastLent.the-variants as len
 -- ---- the calculation
 
 -- the request that a word names, if it makes a calculation
-unfoldable pub kindOf : List ℕ → Named
-kindOf w =
+unfoldable pub kindNamed : List ℕ → Named
+kindNamed w =
     cond (sameOf w (bytes "matrix")) (Is Matrix)
     (cond (sameOf w (bytes "floating_matrix")) (Is FloatingMatrix)
     (cond (sameOf w (bytes "forward")) (Is Forward)
@@ -56,7 +56,7 @@ named No = fail
 unfoldable pub kind : Reader Kind
 kind = do
   w ← word
-  named (kindOf w)
+  named (kindNamed w)
 
 -- how many numbers say how the root stands: R, w x y z, is four, and V, angular then linear, six more
 abbrev pub rootNumbers : Kind → ℕ
@@ -65,14 +65,14 @@ rootNumbers FloatingMatrix = 4
 rootNumbers Forward = 4
 rootNumbers FloatingForward = 10
 
-abbrev pub rotationOf : List Float → Quaternion
-rotationOf l = record { w = getD l 0 nan; u = vec3At l 1 }
+abbrev pub rotationFrom : List Float → Quaternion
+rotationFrom l = record { w = getD l 0 nan; u = vec3At l 1 }
 
 unfoldable pub calculationBy : Kind → List Float → Calculation
 calculationBy Matrix l = of.Matrix matrix.Fixed
-calculationBy FloatingMatrix l = of.Matrix (matrix.Floating (rotationOf l))
-calculationBy Forward l = of.Forward (forward.Fixed (rotationOf l))
-calculationBy FloatingForward l = of.Forward (forward.Floating (rotationOf l) (twistAt l 4))
+calculationBy FloatingMatrix l = of.Matrix (matrix.Floating (rotationFrom l))
+calculationBy Forward l = of.Forward (forward.Fixed (rotationFrom l))
+calculationBy FloatingForward l = of.Forward (forward.Floating (rotationFrom l) (twistAt l 4))
 
 unfoldable pub calculation : Kind → Reader Calculation
 calculation k = do

@@ -22,8 +22,8 @@ use Rattle.calculations.specs.Write.{madeText}
 unfoldable pub ones : ℕ → List Float
 ones n = tab (λ i. 1·0) n
 
-abbrev pub lineOf : Made → List ℕ
-lineOf d = madeText (d .1 .0 .outcome) (d .0) (d .1 .1) (d .1 .2)
+abbrev pub madeLine : Made → List ℕ
+madeLine d = madeText (d .1 .0 .outcome) (d .0) (d .1 .1) (d .1 .2)
 
 -- a position is handed in, and no portion is asked
 abbrev pub idleBy : How → ℕ → Bool
@@ -36,7 +36,7 @@ calculateRequest m how k = do
   c ← calculation k
   i ← inputs c
   l ← lengths
-  cond (idleBy how (length (l .budgets))) fail (give (lineOf (madeOf how (workOf c m i) (l .budgets) (ones (l .ws)) (ones (l .out)))))
+  cond (idleBy how (length (l .budgets))) fail (give (madeLine (madeOf how (workOf c m i) (l .budgets) (ones (l .ws)) (ones (l .out)))))
 
 -- COUNT REQUEST
 unfoldable pub repeatRequest : Model → Reader (List ℕ)

@@ -3,7 +3,7 @@ ghost use mathlib.Core.Path.{_≡_};
 ghost use Prim.Native.Nat.{_≤_};
 ghost use lib.ListN.{length};
 ghost use Rattle.words.specs.Read.{wordsAt};
-ghost use Rattle.calculations.specs.Read.{kindOf, kind, rootNumbers, rotationOf, calculationBy, calculation, inputs, lengths, flag, position, flagRead, FlagIn, positionRead, PositionIn, kindRead, KindIn, calculationRead, CalculationIn, inputsRead, InputsIn, RestRead, lengthsRead, LengthsIn};
+ghost use Rattle.calculations.specs.Read.{kindNamed, kind, rootNumbers, rotationFrom, calculationBy, calculation, inputs, lengths, flag, position, flagRead, FlagIn, positionRead, PositionIn, kindRead, KindIn, calculationRead, CalculationIn, inputsRead, InputsIn, RestRead, lengthsRead, LengthsIn};
 use crate::calculation::Calculation;
 use calls::position::Position;
 use forward_dynamics::forward_dynamics as forward;
@@ -81,7 +81,7 @@ pub enum LastLent {
 }
 
 pub fn kind_of(w: &[u8]) -> Named
-    ensures { λ r. ⌜ r ≡ kindOf (now (w .entry)) ⌝ }
+    ensures { λ r. ⌜ r ≡ kindNamed (now (w .entry)) ⌝ }
 {
     if same(w, b"matrix") {
         return Named::Is(Kind::Matrix);
@@ -174,7 +174,7 @@ fn root_numbers(k: Kind) -> u64
 // w x y z.
 fn rotation(root: &[f64]) -> Quaternion
     requires { ⌜ 4 ≤ length (now root) ⌝ }
-    ensures { λ r. ⌜ r ≡ rotationOf (now (root .entry)) ⌝ }
+    ensures { λ r. ⌜ r ≡ rotationFrom (now (root .entry)) ⌝ }
 {
     let w = root[0];
     let u = slots::vec3_at(root, 1);

@@ -7,7 +7,7 @@ ghost use Rattle.words.specs.Read.{wordsAt};
 ghost use Rattle.replies.specs.Replies.{room, textOf};
 ghost use Rattle.calculations.specs.Calculation.{workOf, inputsBy};
 ghost use Rattle.calculations.specs.Make.{madeOf};
-ghost use Rattle.calculations.specs.Request.{ones, lineOf, idleBy, calculateRequest, repeatRequest, resumeRequest};
+ghost use Rattle.calculations.specs.Request.{ones, madeLine, idleBy, calculateRequest, repeatRequest, resumeRequest};
 use crate::calculation::Calculation;
 use crate::make::How;
 use crate::make::make;
@@ -76,7 +76,7 @@ fn put_answer<'a>(
     at: usize,
 ) -> usize
     requires { ⌜ (length (now budgets) ≤ 4096) × (length (now counts) ≡ 4096) × (length (now out) ≤ 2048) × (at + room ≤ length (now text)) ⌝ }
-    ensures { λ r. ⌜ (at ≤ r) × (r ≤ at + room) × (take r (now (text .exit)) ≡ take at (now (text .entry)) ++ lineOf (madeOf how (workOf c m (inputsBy (now (q .entry)) (now (qd .entry)) (now (forces .entry)) (now (loaded .entry)) (now (loads .entry)))) (now (budgets .entry)) (ones (length (now (ws .entry)))) (ones (length (now (out .entry)))))) ⌝ }
+    ensures { λ r. ⌜ (at ≤ r) × (r ≤ at + room) × (take r (now (text .exit)) ≡ take at (now (text .entry)) ++ madeLine (madeOf how (workOf c m (inputsBy (now (q .entry)) (now (qd .entry)) (now (forces .entry)) (now (loaded .entry)) (now (loads .entry)))) (now (budgets .entry)) (ones (length (now (ws .entry)))) (ones (length (now (out .entry)))))) ⌝ }
 {
     fill(ws);
     fill(out);
@@ -117,7 +117,7 @@ fn answer<'a>(
     at: usize,
 ) -> usize
     requires { ⌜ (length (now budgets) ≤ 4096) × (ws ≤ 4096) × (out ≤ 2048) × (at + room ≤ length (now text)) ⌝ }
-    ensures { λ r. ⌜ (at ≤ r) × (r ≤ at + room) × (take r (now (text .exit)) ≡ take at (now (text .entry)) ++ lineOf (madeOf how (workOf c m (inputsBy (now (q .entry)) (now (qd .entry)) (now (forces .entry)) (now (loaded .entry)) (now (loads .entry)))) (now (budgets .entry)) (ones ws) (ones out))) ⌝ }
+    ensures { λ r. ⌜ (at ≤ r) × (r ≤ at + room) × (take r (now (text .exit)) ≡ take at (now (text .entry)) ++ madeLine (madeOf how (workOf c m (inputsBy (now (q .entry)) (now (qd .entry)) (now (forces .entry)) (now (loaded .entry)) (now (loads .entry)))) (now (budgets .entry)) (ones ws) (ones out))) ⌝ }
 {
     let mut counts = number_buffer();
     let mut workspace = double_buffer();

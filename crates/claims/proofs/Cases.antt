@@ -50,7 +50,7 @@ use Rattle.claims.specs.Cases.{twelve, Hold}
 -- ---- what computes: to unfold one of these is to unfold all that its line names
 
 open-numbers : Type 0
-unfolding ofBits toBits sub mul div le ne ofInt cholesky.lessOf cholesky.belowTo cholesky.columnOf cholesky.choleskyTo cholesky.forwardRow cholesky.forwardTo cholesky.backRow cholesky.backTo cholesky.solveOf double.finite double.absOf double.maxOf double.finiteTo double.amaxTo turn.sinList turn.cosList turn.hornerOf turn.halfTurnOf mat3.plusOf mat3.minusOf mat3.negOf mat3.transposeOf mat3.applyOf mat3.timesOf mat3.turnedOf mat3.outerOf mat3.identityBy mat3.crossMatrixOf mat6.rowOf mat6.applyOf quaternion.productOf quaternion.inverseOf quaternion.rotateOf quaternion.matrixOf root.rootOf vec3.plusOf vec3.minusOf vec3.negOf vec3.scaleOf vec3.overOf vec3.dotOf vec3.crossOf
+unfolding ofBits toBits sub mul div le ne ofInt cholesky.lessOf cholesky.belowTo cholesky.factorColumn cholesky.choleskyTo cholesky.forwardRow cholesky.forwardTo cholesky.backRow cholesky.backTo cholesky.solveOf double.finite double.absOf double.maxOf double.finiteTo double.amaxTo turn.sinList turn.cosList turn.hornerOf turn.halfTurnOf mat3.plusOf mat3.minusOf mat3.negOf mat3.transposeOf mat3.applyOf mat3.timesOf mat3.turnedOf mat3.outerOf mat3.identityBy mat3.crossMatrixOf mat6.rowOf mat6.applyOf quaternion.productOf quaternion.inverseOf quaternion.rotateOf quaternion.matrixOf root.rootOf vec3.plusOf vec3.minusOf vec3.negOf vec3.scaleOf vec3.overOf vec3.dotOf vec3.crossOf
 open-numbers = Unit {0}
 
 open-spatial : Type 0
@@ -70,7 +70,7 @@ unfolding composite.compositeAt composite.putComposite composite.shiftedOf compo
 open-matrix = Unit {0}
 
 open-articulated : Type 0
-unfolding inertia.fromBlocks inertia.rigidOf inertia.inertiaApply inertia.columnOf inertia.unit inertia.alongOf inertia.inertiaApplyJoint inertia.subspaceOf inertia.averageOf solve.rootOr solve.aboveTo solve.scaleOf solve.scaledOf solve.dividedOf solve.differenceOf solve.overOf solve.columnSum solve.normTo solve.sizeOf solve.basis solve.nextNorm solve.inverseTo solve.residualOf solve.nearOf solve.checkedOf solve.solutionOf solve.conditionedOf solve.factoredOf solve.baseSolve first.bodyInertia first.biasForce first.firstOf base.rootVelocity base.gravityLocal base.fixedAcceleration base.rightSide base.worldAcceleration base.judgedBase base.solvedBase base.baseOf second.termOf second.judgedTerm third.carriedAcceleration third.jointAcceleration third.movedBy
+unfolding inertia.fromBlocks inertia.rigidOf inertia.inertiaApply inertia.signedColumn inertia.unit inertia.alongOf inertia.inertiaApplyJoint inertia.subspaceOf inertia.averageOf solve.rootOr solve.aboveTo solve.scaleOf solve.scaledOf solve.dividedOf solve.differenceOf solve.overOf solve.columnSum solve.normTo solve.sizeOf solve.basis solve.nextNorm solve.inverseTo solve.residualOf solve.nearOf solve.checkedOf solve.solutionOf solve.conditionedOf solve.factoredOf solve.baseSolve first.bodyInertia first.biasForce first.firstOf base.rootVelocity base.gravityLocal base.fixedAcceleration base.rightSide base.worldAcceleration base.judgedBase base.solvedBase base.baseOf second.termOf second.judgedTerm third.carriedAcceleration third.jointAcceleration third.movedBy
 open-articulated = Unit {0}
 
 open-dynamics : Type 0

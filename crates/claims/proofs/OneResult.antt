@@ -26,7 +26,7 @@ pub sqrt-one : OneResult sqrt.Post (λ κs r e. r)
 sqrt-one κs a r s e f d h = one-result (d .0) (h .0)
 
 pub half-turn-one : OneResult half-turn.Post (λ κs r e. r)
-half-turn-one κs a r s e f = one-result
+half-turn-one κs a r s e f d h = one-result (d .0) (h .0)
 
 pub build-one : OneResult build.Post (λ κs r e. r)
 build-one κs a r s e f = one-result

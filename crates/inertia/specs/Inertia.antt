@@ -47,14 +47,14 @@ wrenchBy f = record { torque = vecBy f; force = vecBy (λ i. f (3 + i)) }
 -- row i of the three columns from o, times the axis
 unfoldable pub rowPart : List Float → ℕ → ℕ → Vec3 → Float
 unfolding sumTo
-rowPart m i o a = sumTo (λ k. cell m i (o + k) ⊗ comp a k) 2
+rowPart m i o a = sumTo (λ k. cell m i (o + k) ⊗ comp a k) 3
 
 unfoldable pub columnsOf : List Float → ℕ → Vec3 → Wrench
 columnsOf m o a = wrenchBy (λ i. rowPart m i o a)
 
 -- column j, times the sign
-unfoldable pub columnOf : List Float → ℕ → Float → Wrench
-columnOf m j s = wrenchBy (λ i. cell m i j ⊗ s)
+unfoldable pub signedColumn : List Float → ℕ → Float → Wrench
+signedColumn m j s = wrenchBy (λ i. cell m i j ⊗ s)
 
 -- s is exactly ±1, and the others are zeros
 unfoldable pub unit : Float → Float → Float → Bool
@@ -63,9 +63,9 @@ unit s a b = eq (absOf s) 1·0 && (eq a 0·0 && eq b 0·0)
 -- only an exact cardinal axis takes the column path
 unfoldable pub alongOf : List Float → ℕ → Vec3 → Wrench
 alongOf m o a =
-    cond (unit (a .x) (a .y) (a .z)) (columnOf m o (a .x))
-    (cond (unit (a .y) (a .x) (a .z)) (columnOf m (o + 1) (a .y))
-    (cond (unit (a .z) (a .x) (a .y)) (columnOf m (o + 2) (a .z))
+    cond (unit (a .x) (a .y) (a .z)) (signedColumn m o (a .x))
+    (cond (unit (a .y) (a .x) (a .z)) (signedColumn m (o + 1) (a .y))
+    (cond (unit (a .z) (a .x) (a .y)) (signedColumn m (o + 2) (a .z))
     (columnsOf m o a)))
 
 unfoldable pub inertiaApplyJoint : List Float → Motion → Wrench

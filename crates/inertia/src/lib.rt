@@ -2,7 +2,7 @@
 ghost use mathlib.Core.Path.{_≡_};
 ghost use Prim.Native.Nat.{_≤_, _<_};
 ghost use Rattle.spatial.specs.Wrench.{vectorOf};
-ghost use Rattle.inertia.specs.Inertia.{blockOf, fromBlocks, rigidOf, inertiaApply, rowPart, columnsOf, columnOf, unit, alongOf, inertiaApplyJoint, subspaceOf, movedOf, inertiaToParent, reduceOf, averageOf};
+ghost use Rattle.inertia.specs.Inertia.{blockOf, fromBlocks, rigidOf, inertiaApply, rowPart, columnsOf, signedColumn, unit, alongOf, inertiaApplyJoint, subspaceOf, movedOf, inertiaToParent, reduceOf, averageOf};
 use arm::joint::Motion;
 use numbers::double;
 use numbers::mat3;
@@ -132,7 +132,7 @@ fn columns(m: &[f64; 36], o: usize, a: Vec3) -> Wrench
 // Column j, times the sign.
 fn column(m: &[f64; 36], j: usize, s: f64) -> Wrench
     requires { ⌜ j < 6 ⌝ }
-    ensures { λ r. ⌜ r ≡ columnOf (now (m .entry)) j s ⌝ }
+    ensures { λ r. ⌜ r ≡ signedColumn (now (m .entry)) j s ⌝ }
 {
     let torque = Vec3 {
         x: m[j] * s,

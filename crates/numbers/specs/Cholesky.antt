@@ -28,12 +28,12 @@ withRoot l j No = (false, l)
 withRoot l j (Is r) = (true, belowTo (set l (j * 6 + j) r) j r (5 - j))
 
 -- column j: a pivot that is not above zero fails
-unfoldable pub columnOf : List Float → ℕ → Bool × List Float
-columnOf l j = let p = lessOf l j j j in cond (lt 0·0 p) (withRoot l j (rootOf p)) (false, l)
+unfoldable pub factorColumn : List Float → ℕ → Bool × List Float
+factorColumn l j = let p = lessOf l j j j in cond (lt 0·0 p) (withRoot l j (rootOf p)) (false, l)
 
 -- column j where none before it failed
 abbrev pub nextOf : Bool × List Float → ℕ → Bool × List Float
-nextOf f j = cond (f .0) (columnOf (f .1) j) f
+nextOf f j = cond (f .0) (factorColumn (f .1) j) f
 
 -- the first n columns
 unfoldable pub choleskyTo : List Float → ℕ → Bool × List Float

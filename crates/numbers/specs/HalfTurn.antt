@@ -1,6 +1,7 @@
 -- Sine and cosine of half an angle, from the power series, in doubles (document 01, "Number rules"). Definitions only.
 use mathlib.Core.List.{List, [], _∷_}
 use mathlib.Core.Bool.{Bool, true, false, not, cond, _&&_}
+use mathlib.Core.Path.{_≡_}
 use Prim.Native.Nat.{ℕ, zero, suc, _+_, _-_, _*_, _%_}
 use lib.IntN.{ℤ, pos, negsuc, negℤ}
 use lib.Dec.{eqb, ltb}
@@ -99,9 +100,19 @@ turnLimit = bits 0x4090_0000_0000_0000
 abbrev pub inRange : Float → Bool
 inRange q = le q turnLimit && le (neg turnLimit) q
 
-unfoldable pub halfTurnOf : Float → HalfTurn
+-- sine and cosine of h = q × 0.5
+unfoldable pub sinCosOf : Float → SinCos
 unfolding seriesOf placedOf reducedOf wholeOf quarterOf
-halfTurnOf q =
+sinCosOf q =
     let h = q ⊗ 0·5 in
     let n = wholeOf (h ⊗ K) in
-    cond (inRange q) (Of (placedOf (seriesOf (reducedOf h (ofInt binary64 n))) (quarterOf n))) OutOfRange
+    placedOf (seriesOf (reducedOf h (ofInt binary64 n))) (quarterOf n)
+
+unfoldable pub halfTurnOf : Float → HalfTurn
+unfolding sinCosOf
+halfTurnOf q = cond (inRange q) (Of (sinCosOf q)) OutOfRange
+
+-- what each answer says of q: these are its sine and cosine, or q is "out of range"
+unfoldable pub HalfTurnIs : Float → HalfTurn → Type 0
+HalfTurnIs q (Of v) = (inRange q ≡ true) × (v ≡ sinCosOf q)
+HalfTurnIs q OutOfRange = inRange q ≡ false

@@ -34,12 +34,12 @@ transposeOf m = matBy (λ i j. cell m j i)
 -- m v
 unfoldable pub applyOf : Mat3 → Vec3 → Vec3
 unfolding sumTo
-applyOf m v = vecBy (λ i. sumTo (λ k. cell m i k ⊗ comp v k) 2)
+applyOf m v = vecBy (λ i. sumTo (λ k. cell m i k ⊗ comp v k) 3)
 
 -- a b
 unfoldable pub timesOf : Mat3 → Mat3 → Mat3
 unfolding sumTo
-timesOf a b = matBy (λ i j. sumTo (λ k. cell a i k ⊗ cell b k j) 2)
+timesOf a b = matBy (λ i j. sumTo (λ k. cell a i k ⊗ cell b k j) 3)
 
 -- r m rᵀ, by two products
 unfoldable pub turnedOf : Mat3 → Mat3 → Mat3

@@ -21,7 +21,7 @@ plusOf a b = tab (λ t. getD a t nan ⊕ getD b t nan) 36
 -- row i of m v
 unfoldable pub rowOf : List Float → List Float → ℕ → Float
 unfolding sumTo
-rowOf m v i = sumTo (λ k. cell m i k ⊗ getD v k nan) 5
+rowOf m v i = sumTo (λ k. cell m i k ⊗ getD v k nan) 6
 
 -- m v
 unfoldable pub applyOf : List Float → List Float → List Float

@@ -33,7 +33,7 @@ overOf a k = vecBy (λ i. comp a i ⊘ k)
 -- a · b
 unfoldable pub dotOf : Vec3 → Vec3 → Float
 unfolding sumTo
-dotOf a b = sumTo (λ i. comp a i ⊗ comp b i) 2
+dotOf a b = sumTo (λ i. comp a i ⊗ comp b i) 3
 
 -- a × b: a_y b_z - a_z b_y, the rest by rotation
 unfoldable pub crossOf : Vec3 → Vec3 → Vec3

@@ -1,7 +1,7 @@
 // The lower factor of a 6×6 matrix, written over it, and solving by it.
 ghost use mathlib.Core.Path.{_≡_};
 ghost use Prim.Native.Nat.{_-_, _≤_, _<_};
-ghost use Rattle.numbers.specs.Cholesky.{lessOf, belowTo, columnOf, nextOf, choleskyOf, forwardRow, forwardTo, backRow, backTo, solveOf};
+ghost use Rattle.numbers.specs.Cholesky.{lessOf, belowTo, factorColumn, nextOf, choleskyOf, forwardRow, forwardTo, backRow, backTo, solveOf};
 use crate::root;
 use crate::root::Root;
 
@@ -36,7 +36,7 @@ fn below(l: &mut [f64; 36], j: usize, r: f64)
 // Column j: false where its pivot is not above zero.
 fn column(l: &mut [f64; 36], j: usize) -> bool
     requires { ⌜ j < 6 ⌝ }
-    ensures { λ r. ⌜ (r, now (l .exit)) ≡ columnOf (now (l .entry)) j ⌝ }
+    ensures { λ r. ⌜ (r, now (l .exit)) ≡ factorColumn (now (l .entry)) j ⌝ }
 {
     let p = less(l, j, j, j);
     if 0.0 < p {

@@ -3,7 +3,7 @@ ghost use mathlib.Core.Path.{_≡_};
 ghost use Prim.Native.Nat.{_<_};
 ghost use lib.Dec.{T};
 ghost use lib.ListN.{length};
-ghost use Rattle.numbers.specs.HalfTurn.{small, turnsOf, hornerOf, seriesOf, placedOf, reducedOf, inRange, halfTurnOf};
+ghost use Rattle.numbers.specs.HalfTurn.{small, turnsOf, hornerOf, seriesOf, placedOf, reducedOf, inRange, halfTurnOf, HalfTurnIs};
 
 // A whole number as a double, and modulo 4.
 pub struct Turns {
@@ -130,7 +130,7 @@ pub fn in_range(q: f64) -> bool
 
 // Sine and cosine of q * 0.5.
 pub fn half_turn(q: f64) -> HalfTurn
-    ensures { λ r. ⌜ r ≡ halfTurnOf q ⌝ }
+    ensures { λ r. ⌜ (r ≡ halfTurnOf q) × HalfTurnIs q r ⌝ }
 {
     if in_range(q) {
         let h = q * 0.5;

@@ -7,7 +7,7 @@ use Rattle.words.specs.Read.{wordsOf, sameOf, Reader, give, fail, _>>=_, word}
 use Rattle.words.specs.Write.{bytes}
 use Rattle.arm.specs.declared.model.Model.{Model as Arm}
 use Rattle.calculations.specs.Column.{columnRequest}
-use Rattle.calculations.specs.Read.{kindOf}
+use Rattle.calculations.specs.Read.{kindNamed}
 use Rattle.calculations.specs.Request.{calculateRequest, repeatRequest, resumeRequest}
 use Rattle.calculations.specs.declared.make.How.the-variants.{Times}
 use Rattle.calculations.specs.declared.read.Named.{Named}
@@ -33,7 +33,7 @@ nameOf w =
     (cond (sameOf w (bytes "repeat")) Repeat
     (cond (sameOf w (bytes "resume")) Resume
     (cond (sameOf w (bytes "half_turn")) HalfTurn
-    (kindName (kindOf w))))))))
+    (kindName (kindNamed w))))))))
 
 -- a request that keeps the current model
 abbrev pub keeping : Arm → Reader (List ℕ) → Reader (List ℕ × Arm)

@@ -1,5 +1,5 @@
 use mathlib.Core.Path.{_≡_}
-use Prim.Native.Nat.{_-_, _≤_}
+use Prim.Native.Nat.{suc, _-_, _≤_}
 use native.Mathlib.Numerals.{add-one}
 use native.Mathlib.Omega.{arith}
 use Rattle.numbers.specs.Double.{absOf}
@@ -11,7 +11,7 @@ use Rattle.base_solve.proofs.column_sum.Statement.{statement}
 use Rattle.base_solve.proofs.column_sum.Tie as tie
 
 abbrev Inv-loop : tie.InvT-loop
-Inv-loop a j s₀ k₀ s k = (k ≤ 5) × (s ≡ sumTo (λ i. absOf (cell a i j)) k)
+Inv-loop a j s₀ k₀ s k = (k ≤ 5) × (s ≡ sumTo (λ i. absOf (cell a i j)) (suc k))
 
 abbrev μ-loop : tie.MeasureT-loop
 μ-loop a j s₀ k₀ s k = 5 - k

@@ -1,5 +1,5 @@
 use mathlib.Core.Path.{_≡_}
-use Prim.Native.Nat.{_-_, _≤_}
+use Prim.Native.Nat.{suc, _-_, _≤_}
 use native.Mathlib.Numerals.{add-one}
 use native.Mathlib.Omega.{arith}
 use lib.ListN.{getD}
@@ -12,7 +12,7 @@ use Rattle.base_solve.proofs.size.Statement.{statement}
 use Rattle.base_solve.proofs.size.Tie as tie
 
 abbrev Inv-loop : tie.InvT-loop
-Inv-loop v s₀ k₀ s k = (k ≤ 5) × (s ≡ sumTo (λ i. absOf (getD v i nan)) k)
+Inv-loop v s₀ k₀ s k = (k ≤ 5) × (s ≡ sumTo (λ i. absOf (getD v i nan)) (suc k))
 
 abbrev μ-loop : tie.MeasureT-loop
 μ-loop v s₀ k₀ s k = 5 - k

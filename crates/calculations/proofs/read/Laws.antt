@@ -8,7 +8,7 @@ use Rattle.words.specs.Read.{firstOf, sameOf, give, goOn, number}
 use Rattle.words.specs.List.{items}
 use Rattle.words.proofs.read.Words.{word-first}
 use Rattle.calculations.specs.declared.read.Named.{Named}
-use Rattle.calculations.specs.Read.{kindOf, named, kind}
+use Rattle.calculations.specs.Read.{kindNamed, named, kind}
 
 -- so many items are read, if any
 abbrev pub Long : {A : Type 0} → Option (List A × List (List ℕ)) → ℕ → Type 0
@@ -29,6 +29,6 @@ unfolding items
 items-long f zero ws = refl
 items-long f (suc n) ws = item f n (number ws) (items-long f n)
 
-pub kind-is : (ws : List (List ℕ)) {w : List ℕ} {rest : List (List ℕ)} {r : Named} → firstOf ws ≡ (w, rest) → r ≡ kindOf w → named r rest ≡ kind ws
-unfolding kind kindOf sameOf
-kind-is ws e k = rw k (sym (word-first (λ w. named (kindOf w)) ws refl ∙ rw e))
+pub kind-is : (ws : List (List ℕ)) {w : List ℕ} {rest : List (List ℕ)} {r : Named} → firstOf ws ≡ (w, rest) → r ≡ kindNamed w → named r rest ≡ kind ws
+unfolding kind kindNamed sameOf
+kind-is ws e k = rw k (sym (word-first (λ w. named (kindNamed w)) ws refl ∙ rw e))

@@ -1,4 +1,4 @@
-use Rattle.inertia.specs.Inertia.{columnOf}
+use Rattle.inertia.specs.Inertia.{signedColumn}
 use borrow.Author.Needs.{needs}
 use native.Mathlib.Nat.{zero-add}
 use Rattle.inertia.proofs.column.Statement.{statement}
@@ -56,7 +56,7 @@ element-copy-out-t10 : tie.Need-element-copy-out-t10
 element-copy-out-t10 c = search needs
 
 returns : tie.Need-returns
-unfolding columnOf
+unfolding signedColumn
 returns c = simp zero-add
 
 pub column-spec : {M : Type 1} → statement M

@@ -9,14 +9,14 @@ use borrow.Author.Tests.{eq-eqb, ne-eqb}
 use Rattle.words.specs.Read.{wordsOf, firstOf, sameOf, give, goOn}
 use Rattle.words.proofs.read.Words.{word-first}
 use Rattle.arm.specs.declared.model.Model.{Model}
-use Rattle.calculations.specs.Read.{kindOf}
+use Rattle.calculations.specs.Read.{kindNamed}
 use Rattle.requests.specs.declared.answer.Name.{Name}
 use Rattle.replies.specs.Replies.{textOf, replyOf, behind}
 use Rattle.requests.specs.Answer.{nameOf, namedRequest, requestOf, answerOf}
 
 module _ (m : Model) where
   pub request-is : (ws : List (List ℕ)) {w : List ℕ} {rest : List (List ℕ)} {n : Name} → firstOf ws ≡ (w, rest) → n ≡ nameOf w → namedRequest m n rest ≡ requestOf m ws
-  unfolding requestOf nameOf kindOf sameOf
+  unfolding requestOf nameOf kindNamed sameOf
   request-is ws e k = rw k (sym (word-first (λ w. namedRequest m (nameOf w)) ws refl ∙ rw e))
 
   -- a request that keeps the model, of its text alone

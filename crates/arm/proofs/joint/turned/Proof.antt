@@ -17,11 +17,11 @@ enum-told c = search needs
 
 returns : tie.Need-returns
 unfolding turnedOf
-returns c = simp (← c .before .before .before .before .half-turn .ensures, c .before .before .half .given .1, c .turn .ensures)
+returns c = simp (← c .before .before .before .before .half-turn .ensures .0, c .before .before .half .given .1, c .turn .ensures)
 
 returns-2 : tie.Need-returns-2
 unfolding turnedOf
-returns-2 c = simp (← c .before .before .half-turn .ensures, c .enum-told .given .1)
+returns-2 c = simp (← c .before .before .half-turn .ensures .0, c .enum-told .given .1)
 
 pub turned-spec : {M : Type 1} → statement M
 turned-spec =

@@ -6,7 +6,7 @@ use lib.ListN.{set}
 use lib.Ieee.{Float, lt}
 use Rattle.numbers.specs.Double.{0·0}
 use borrow.Author.Needs.{needs}
-use Rattle.numbers.specs.Cholesky.{lessOf, belowTo, columnOf}
+use Rattle.numbers.specs.Cholesky.{lessOf, belowTo, factorColumn}
 use Rattle.numbers.specs.declared.root.Root.{Root}
 use Rattle.numbers.specs.declared.root.Root.the-variants.{Is, No}
 use Rattle.numbers.specs.Root.{rootOf}
@@ -15,16 +15,16 @@ use Rattle.numbers.proofs.cholesky.column.Tie as tie
 
 -- what the calls ensure, put together, at each way out
 module _ (l : List Float) (j : ℕ) (p : Float) (e : p ≡ lessOf l j j j) where
-  glue-is : (s : Root) (r : Float) (m : List Float) → lt 0·0 p ≡ true → s ≡ rootOf p → s ≡ Is r → m ≡ belowTo (set l (j * 6 + j) r) j r (5 - j) → (true, m) ≡ columnOf l j
-  unfolding columnOf
+  glue-is : (s : Root) (r : Float) (m : List Float) → lt 0·0 p ≡ true → s ≡ rootOf p → s ≡ Is r → m ≡ belowTo (set l (j * 6 + j) r) j r (5 - j) → (true, m) ≡ factorColumn l j
+  unfolding factorColumn
   glue-is s r m h a b d = rw (← e, h, ← a, b, d)
 
-  glue-no : (s : Root) → lt 0·0 p ≡ true → s ≡ rootOf p → s ≡ No → (false, l) ≡ columnOf l j
-  unfolding columnOf
+  glue-no : (s : Root) → lt 0·0 p ≡ true → s ≡ rootOf p → s ≡ No → (false, l) ≡ factorColumn l j
+  unfolding factorColumn
   glue-no s h a b = rw (← e, h, ← a, b)
 
-  glue-not : lt 0·0 p ≡ false → (false, l) ≡ columnOf l j
-  unfolding columnOf
+  glue-not : lt 0·0 p ≡ false → (false, l) ≡ factorColumn l j
+  unfolding factorColumn
   glue-not h = rw (← e, h)
 
 less-requires : tie.Need-less-requires

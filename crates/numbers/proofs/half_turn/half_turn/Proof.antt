@@ -7,16 +7,16 @@ use Rattle.numbers.specs.Double.{_⊗_, 0·5}
 use Rattle.numbers.specs.declared.half_turn.Turns.{Turns}
 use Rattle.numbers.specs.declared.half_turn.SinCos.{SinCos}
 use Rattle.numbers.specs.declared.half_turn.HalfTurn.the-variants.{Of}
-use Rattle.numbers.specs.HalfTurn.{K, turnsOf, inRange, reducedOf, seriesOf, placedOf, halfTurnOf}
+use Rattle.numbers.specs.HalfTurn.{K, turnsOf, inRange, reducedOf, seriesOf, placedOf, sinCosOf, halfTurnOf, HalfTurnIs}
 use Rattle.numbers.proofs.half_turn.Bound.{quarters-small}
 use Rattle.numbers.proofs.half_turn.half_turn.Statement.{statement}
 use Rattle.numbers.proofs.half_turn.half_turn.Tie as tie
 
 -- what the four calls ensure, put together
 glue : (q r : Float) (t : Turns) (s p : SinCos) → inRange q ≡ true → t ≡ turnsOf (q ⊗ 0·5 ⊗ K) → r ≡ reducedOf (q ⊗ 0·5) (t .whole)
-    → s ≡ seriesOf r → p ≡ placedOf s (t .quarter) → Of p ≡ halfTurnOf q
-unfolding halfTurnOf turnsOf
-glue q r t s p h a b d e = rw (h, e, d, b, a)
+    → s ≡ seriesOf r → p ≡ placedOf s (t .quarter) → (Of p ≡ halfTurnOf q) × HalfTurnIs q (Of p)
+unfolding halfTurnOf sinCosOf HalfTurnIs turnsOf
+glue q r t s p h a b d e = (rw (h, e, d, b, a), (h, rw (e, d, b, a)))
 
 in-range-requires : tie.Need-in-range-requires
 in-range-requires c κs = search needs
@@ -40,8 +40,8 @@ returns c =
     (sym (d .before .before .in-range .ensures) ∙ d .before .if1 .taken) (d .nearest .ensures) (c .before .before .reduced .ensures) (c .before .series .ensures) (c .placed .ensures)
 
 returns-2 : tie.Need-returns-2
-unfolding halfTurnOf
-returns-2 c = simp (← c .before .in-range .ensures, c .if1 .left)
+unfolding halfTurnOf HalfTurnIs
+returns-2 c = let e = sym (c .before .in-range .ensures) ∙ c .if1 .left in (rw e, e)
 
 pub half-turn-spec : {M : Type 1} → statement M
 half-turn-spec =

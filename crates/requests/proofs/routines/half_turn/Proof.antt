@@ -32,7 +32,7 @@ returns c =
     let b3 = b2 .before in
     let b6 = b3 .before .before .before in
     let b8 = b6 .before .before in
-    (search needs, search needs, rw (← (rw (b6 .q .given .1) at (b8 .only-double .ensures)), ← b3 .half-turn .ensures) (b2 .put-half-turn .ensures .2))
+    (search needs, search needs, rw (← (rw (b6 .q .given .1) at (b8 .only-double .ensures)), ← b3 .half-turn .ensures .0) (b2 .put-half-turn .ensures .2))
 
 same-length-2 : tie.Need-same-length-2
 same-length-2 c = search needs
