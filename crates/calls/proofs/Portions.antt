@@ -1,5 +1,5 @@
 -- Portions compose: however the visits are divided, and whatever refused calls lie between, the end is that of the undivided call. Assumes nothing.
-use mathlib.Core.Bool.{Bool, true, false, true≢false}
+use mathlib.Core.Bool.{Bool, true, false, Bool·beq, true≢false}
 use mathlib.Core.List.{List, [], _∷_}
 use mathlib.Core.Logic.{_⊎_, inl, inr, ⊎-elim}
 use mathlib.Core.Path.{_≡_, refl, sym, ap, _∙_}
@@ -16,7 +16,7 @@ use Rattle.refusals.specs.declared.Verdict.the-variants.{Fine, Refused}
 use Rattle.refusals.proofs.Verdicts.{both-fine}
 use Rattle.slots.specs.Slots.{cleared}
 use Rattle.slots.proofs.Lengths.{length-cleared}
-use Rattle.calls.specs.Position.{Work, State, Result, visitsOf, alike, fresh, shut, positionVerdict, ended, advancedBy, closing, landed, stepOf, iterate, opening, answerBy, begunAt, refusedAt, ran, unless, startOf, checksOf, portionOf, wholeOf}
+use Rattle.calls.specs.Position.{Work, State, Result, visitsOf, fresh, shut, positionVerdict, ended, advancedBy, closing, landed, stepOf, iterate, opening, answerBy, begunAt, refusedAt, ran, unless, startOf, checksOf, portionOf, wholeOf}
 use Rattle.calls.specs.Portions.{Sound, Call, portion, other, start, whole, keeping, answered, added, callsFrom, dividedOf, Refuses, RefusesAll, after, handed, held, Underway, Undivided}
 use Rattle.calls.specs.declared.position.Outcome.{Outcome}
 use Rattle.calls.specs.declared.position.Outcome.the-variants.{Open, Accepted}
@@ -26,9 +26,9 @@ use Rattle.calls.specs.declared.position.Progress.{Progress}
 use Rattle.calls.proofs.Passed.{still-open}
 use Rattle.calls.proofs.Steps.{visits, closed, iterate-add, step-open, run-closed, run-forth, run-most, run-exact, same-end}
 
-alike-self : (b : Bool) → alike b b ≡ true
-alike-self true = refl
-alike-self false = refl
+beq-self : (b : Bool) → Bool·beq b b ≡ true
+beq-self true = refl
+beq-self false = refl
 
 some-visit : (matrix : Bool) (n a : ℕ) → 0 < visitsOf matrix n a
 unfolding visitsOf
@@ -95,7 +95,7 @@ module _ (w : Work) (sound : Sound w) where
     -- the checks pass at an open state, so a portion runs from it
     judged-open : (k : ℕ) → k < total → positionVerdict (w .matrix) (w .floating) (w .n) (w .a) (openAt k) ≡ Fine
     unfolding positionVerdict plainOf orElse
-    judged-open k h = simp (alike-self (w .matrix), alike-self (w .floating), eq-eqb (w .n) (w .n) refl, eq-eqb (w .a) (w .a) refl, lt-leb total k h)
+    judged-open k h = simp (beq-self (w .matrix), beq-self (w .floating), eq-eqb (w .n) (w .n) refl, eq-eqb (w .a) (w .a) refl, lt-leb total k h)
 
     portion-open : (b : ℕ) (s : State) (k : ℕ) → At s k l m → portionOf w b (s .0 .position) (s .1) (s .2) ≡ ran w b (openAt k) (s .1) (s .2)
     unfolding portionOf orElse
