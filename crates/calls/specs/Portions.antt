@@ -38,8 +38,8 @@ backIn (own u) s t = s
 
 -- ---- calls in a row
 
--- One of the calls after a start: a portion of the calculation, with its budget, on the position and the buffers in hand; or a portion, a start or
--- an undivided call of any calculation, this one too, on a position of its own and a workspace and an output lent to it.
+-- One of the calls after a start: a portion of the calculation, with its budget, on the position and the buffers in hand; or, on a workspace and
+-- an output lent to it, a portion (on a position of its own), a start or an undivided call of any calculation, this one too.
 pub data Call : Type 0 where
   portion : ℕ → Call
   other : Work → ℕ → Position → Lent → Lent → Call
@@ -71,7 +71,7 @@ added r s = (
   s .2,
 )
 
--- each call on what the one before handed back
+-- each call, with what the one before left in hand
 unfoldable pub callsFrom : Work → List Call → Result → Result
 callsFrom w [] r = r
 callsFrom w (c ∷ more) r = callsFrom w more (added r (answered w c r))
