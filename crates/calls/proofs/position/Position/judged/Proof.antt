@@ -35,7 +35,22 @@ first-requires-2 c κs = search needs
 
 returns : tie.Need-returns
 unfolding positionVerdict
-returns c = cc
+returns c =
+    let b4 = c .before .before .before .before in
+    let b8 = b4 .before .before .before .before in
+    let b10 = b8 .before .before in
+    simp (
+      c .first2 .ensures,
+      c .before .first .ensures,
+      c .before .before .plain3 .ensures,
+      c .before .before .before .plain2 .ensures,
+      b4 .plain .ensures,
+      b4 .before .either3 .ensures,
+      b4 .before .before .both .ensures,
+      b8 .visits .ensures,
+      b10 .either2 .ensures,
+      b10 .before .before .before .either .ensures,
+    )
 
 pub judged-spec : {M : Type 1} → statement M
 judged-spec =
