@@ -49,13 +49,9 @@ pub still-open : (matrix floating : Bool) (n a : ℕ) (p : Position) → positio
 unfolding positionVerdict
 still-open matrix floating n a p e =
     let f = both-fine _ _ (both-fine _ _ e .1) in
-    let c = not-twice (p .closed) (plain-fine 24 (not (not (p .closed))) (f .1)) in
+    let c = plain-fine 24 (p .closed) (f .1) in
     (c, left (p .closed) (visitsOf matrix n a) (p .visits) c (plain-fine 23 (not (p .closed) && leb (visitsOf matrix n a) (p .visits)) (f .0)))
   where
-    not-twice : (b : Bool) → not (not b) ≡ false → b ≡ false
-    not-twice true e = e
-    not-twice false e = refl
-
     left : (b : Bool) (t v : ℕ) → b ≡ false → (not b && leb t v) ≡ false → v < t
     left true t v c e = absurd (true≢false c)
     left false t v c e = leb-false t v e

@@ -1,5 +1,5 @@
 -- Portions compose: however the visits are divided, and whatever refused calls lie between, the end is that of the undivided call. Assumes nothing.
-use mathlib.Core.Bool.{Bool, true, false, true≢false}
+use mathlib.Core.Bool.{Bool, true, false, Bool·beq, true≢false}
 use mathlib.Core.List.{List, [], _∷_}
 use mathlib.Core.Logic.{_⊎_, inl, inr, ⊎-elim}
 use mathlib.Core.Path.{_≡_, refl, sym, ap, _∙_}
@@ -7,7 +7,8 @@ use Prim.Native.Nat.{ℕ, zero, suc, _+_, _<_}
 use native.Mathlib.Nat.{add-zero, sub-zero, eq-or-lt-of-le}
 use native.Mathlib.Omega.{arith}
 use borrow.Author.Tests.{eq-eqb, lt-leb}
-use lib.ListN.{length}
+use lib.ListN.{length, drop, take-append-drop}
+use lib.Seq.{drop-drop}
 use lib.Ieee.{Float}
 use Rattle.refusals.specs.Refusals.{plainOf, orElse}
 use Rattle.refusals.specs.declared.Place.{Place}
@@ -16,8 +17,8 @@ use Rattle.refusals.specs.declared.Verdict.the-variants.{Fine, Refused}
 use Rattle.refusals.proofs.Verdicts.{both-fine}
 use Rattle.slots.specs.Slots.{cleared}
 use Rattle.slots.proofs.Lengths.{length-cleared}
-use Rattle.calls.specs.Position.{Work, State, Result, visitsOf, alike, fresh, shut, positionVerdict, ended, advancedBy, closing, landed, stepOf, iterate, opening, answerBy, begunAt, refusedAt, ran, unless, startOf, checksOf, portionOf, wholeOf}
-use Rattle.calls.specs.Portions.{Sound, Call, portion, other, start, whole, keeping, answered, added, callsFrom, dividedOf, Refuses, RefusesAll, after, handed, held, Underway, Undivided}
+use Rattle.calls.specs.Position.{Work, State, Result, visitsOf, fresh, shut, positionVerdict, ended, advancedBy, closing, landed, stepOf, iterate, opening, answerBy, begunAt, refusedAt, ran, unless, startOf, checksOf, portionOf, wholeOf}
+use Rattle.calls.specs.Portions.{Sound, Lent, part, own, lentOf, backIn, Call, portion, other, start, whole, aside, answered, added, callsFrom, dividedOf, Refuses, RefusesAll, after, handed, held, Underway, Undivided}
 use Rattle.calls.specs.declared.position.Outcome.{Outcome}
 use Rattle.calls.specs.declared.position.Outcome.the-variants.{Open, Accepted}
 use Rattle.calls.specs.declared.position.Outcome.the-variants as outcome
@@ -26,9 +27,9 @@ use Rattle.calls.specs.declared.position.Progress.{Progress}
 use Rattle.calls.proofs.Passed.{still-open}
 use Rattle.calls.proofs.Steps.{visits, closed, iterate-add, step-open, run-closed, run-forth, run-most, run-exact, same-end}
 
-alike-self : (b : Bool) → alike b b ≡ true
-alike-self true = refl
-alike-self false = refl
+beq-self : (b : Bool) → Bool·beq b b ≡ true
+beq-self true = refl
+beq-self false = refl
 
 some-visit : (matrix : Bool) (n a : ℕ) → 0 < visitsOf matrix n a
 unfolding visitsOf
@@ -95,7 +96,7 @@ module _ (w : Work) (sound : Sound w) where
     -- the checks pass at an open state, so a portion runs from it
     judged-open : (k : ℕ) → k < total → positionVerdict (w .matrix) (w .floating) (w .n) (w .a) (openAt k) ≡ Fine
     unfolding positionVerdict plainOf orElse
-    judged-open k h = simp (alike-self (w .matrix), alike-self (w .floating), eq-eqb (w .n) (w .n) refl, eq-eqb (w .a) (w .a) refl, lt-leb total k h)
+    judged-open k h = simp (beq-self (w .matrix), beq-self (w .floating), eq-eqb (w .n) (w .n) refl, eq-eqb (w .a) (w .a) refl, lt-leb total k h)
 
     portion-open : (b : ℕ) (s : State) (k : ℕ) → At s k l m → portionOf w b (s .0 .position) (s .1) (s .2) ≡ ran w b (openAt k) (s .1) (s .2)
     unfolding portionOf orElse
@@ -110,10 +111,17 @@ back : (v : Verdict) (p : Position) (ws out : List Float) (r : Result) → (v �
 back Fine p ws out r f = absurd (f refl)
 back (Refused number i) p ws out r f = (number, i, refl)
 
-kept-back : (v : Verdict) (p q : Position) (ws out : List Float) (r : Result) → (v ≡ Fine → ⊥) → Untouched p ws out (keeping p (unless v q ws out r))
+-- what was lent is where it was
+lent-back : (l : Lent) (s : List Float) → backIn l s (lentOf l s) ≡ s
+unfolding lentOf backIn
+lent-back (part from count) s = rw (← drop-drop count from s, take-append-drop count (drop from s), take-append-drop from s)
+lent-back (own t) s = refl
+
+aside-back : (v : Verdict) (p : Position) (ws out : Lent) (r x : Result) → (v ≡ Fine → ⊥)
+    → Untouched (r .0 .position) (r .1) (r .2) (aside (λ s t. unless v p s t x) ws out r)
 unfolding refusedAt
-kept-back Fine p q ws out r f = absurd (f refl)
-kept-back (Refused number i) p q ws out r f = (number, i, refl)
+aside-back Fine p ws out r x f = absurd (f refl)
+aside-back (Refused number i) p ws out r x f = (number, i, rw (lent-back ws (r .1), lent-back out (r .2)))
 
 module _ (w : Work) where
   -- a portion on a closed position is refused
@@ -127,9 +135,9 @@ module _ (w : Work) where
   call-refused : (c : Call) (r : Result) → Refuses c r → ((b : ℕ) × (c ≡ portion b)) ⊎ Untouched (r .0 .position) (r .1) (r .2) (answered w c r)
   unfolding Refuses answered portionOf startOf wholeOf
   call-refused (portion b) r h = inl (b, refl)
-  call-refused (other v b) r h = inr (back (checksOf v (r .0 .position) (length (r .1)) (length (r .2))) (r .0 .position) (r .1) (r .2) _ h)
-  call-refused (start v) r h = inr (kept-back (v .inputs (length (r .1)) (length (r .2))) (r .0 .position) (shut v) (r .1) (r .2) _ h)
-  call-refused (whole v) r h = inr (kept-back (v .inputs (length (r .1)) (length (r .2))) (r .0 .position) (shut v) (r .1) (r .2) _ h)
+  call-refused (other v b p ws out) r h = inr (aside-back (checksOf v p (length (lentOf ws (r .1))) (length (lentOf out (r .2)))) p ws out r _ h)
+  call-refused (start v ws out) r h = inr (aside-back (v .inputs (length (lentOf ws (r .1))) (length (lentOf out (r .2)))) (shut v) ws out r _ h)
+  call-refused (whole v ws out) r h = inr (aside-back (v .inputs (length (lentOf ws (r .1))) (length (lentOf out (r .2)))) (shut v) ws out r _ h)
 
 -- and on a closed position nothing is added
 added-closed : (r s : Result) → r .0 .position .closed ≡ true → Untouched (r .0 .position) (r .1) (r .2) s → added r s ≡ r
@@ -212,7 +220,7 @@ module _ (w : Work) (sound : Sound w) (ws out : List Float) (fine : w .inputs (l
 
   ends-undivided : (r : Result) (j : ℕ) → Stands r (after w j ws out) → r .0 .position .closed ≡ true → Undivided w ws out r
   unfolding wholeOf answerBy
-  ends-undivided r j t c = record { same = same; before = before; accepted = accepted }
+  ends-undivided r j t c = record { same = same; before = before; closes = closes; accepted = accepted }
     where
       end : after w j ws out ≡ after w (total w sound) ws out
       end = same-end (w .visit) (w .results) j (total w sound) first (sym (closed-alike t) ∙ c) (whole-ended .closes)
@@ -231,6 +239,12 @@ module _ (w : Work) (sound : Sound w) (ws out : List Float) (fine : w .inputs (l
               let d = ap visits (same-end (w .visit) (w .results) k (total w sound) first e (whole-ended .closes)) in
               absurd (omega (arith, ended-so .count, run-most (w .visit) (w .results) k first))
           go false e = refl
+
+      closes : 0 < r .0 .visits → closed (after w (r .0 .visits) ws out) ≡ true
+      closes h =
+          let (k, e, v) = run-exact (w .visit) (w .results) (total w sound) first in
+          let f : r .0 .visits ≡ k = omega (arith, ended-so .count, v) in
+          rw f (sym (ap closed e) ∙ whole-ended .closes)
 
       accepted : r .0 .outcome ≡ Accepted → r .0 .visits ≡ total w sound
       accepted e = ended-so .count ∙ whole-ended .accepted (sym (ended-so .outcome (whole-ended .closes)) ∙ e)
@@ -263,7 +277,7 @@ closed-stays w (d ∷ more) r c h =
 refused-undivided : (w : Work) (ws out : List Float) (number : ℕ) (i : Place) → w .inputs (length ws) (length out) ≡ Refused number i → Undivided w ws out (startOf w ws out)
 unfolding startOf wholeOf refusedAt
 refused-undivided w ws out number i e =
-    rw e (record { same = rw e; before = λ k h. absurd (omega arith); accepted = λ a. let z : _≡_ {A = ℕ} 0 1 = cc in absurd (omega arith) })
+    rw e (record { same = rw e; before = λ k h. absurd (omega arith); closes = λ h. absurd (omega arith); accepted = λ a. let z : _≡_ {A = ℕ} 0 1 = cc in absurd (omega arith) })
 
 -- DEMAND 3: once the position is closed, portions of any budgets, with any refused calls between them, have answered together what the undivided
 -- call answers on the same buffers, and left what it leaves

@@ -1,5 +1,5 @@
 -- The checks of a call that both calculations make (document 01, "Refusal numbers"). Definitions only.
-use mathlib.Core.Bool.{Bool, not, _&&_}
+use mathlib.Core.Bool.{Bool, not, _&&_, _||_}
 use mathlib.Core.List.{List, [], _∷_}
 use Prim.Native.Nat.{ℕ}
 use lib.Dec.{eqb}
@@ -20,7 +20,7 @@ badValue ks q j = not (finite (valueOf ks q j))
 
 -- 11 and 12, or 14 and 15
 unfoldable pub valuesVerdict : ℕ → ℕ → List ℕ → ℕ → List Float → Verdict
-valuesVerdict counted finite ks n q = orElse (plainOf counted (not (eqb (length q) (activesOf ks n)))) (namedOf finite (lowest (badValue ks q) n))
+valuesVerdict miscounted nonfinite ks n q = orElse (plainOf miscounted (not (eqb (length q) (activesOf ks n)))) (namedOf nonfinite (lowest (badValue ks q) n))
 
 -- joint j turns, by a value beyond the limit
 unfoldable pub farTurn : List ℕ → List Float → ℕ → Bool
@@ -32,4 +32,4 @@ turnsVerdict ks n q = namedOf 13 (lowest (farTurn ks q) n)
 
 -- a root rotation that is not finite, or as in 7
 unfoldable pub badRotation : Quaternion → Bool
-badRotation r = not (allFinite (r .w ∷ r .u .x ∷ r .u .y ∷ r .u .z ∷ []) && not (notUnit r))
+badRotation r = not (allFinite (r .w ∷ r .u .x ∷ r .u .y ∷ r .u .z ∷ [])) || notUnit r

@@ -1,4 +1,5 @@
 pub mod Checks
+pub mod Places
 pub mod Plan
 pub mod Position
 pub mod Portions

@@ -1,5 +1,5 @@
 -- A calculation in visits: where it stands, its portions, how it closes (document 01, "Visits"). Definitions only.
-use mathlib.Core.Bool.{Bool, true, false, not, cond, _&&_}
+use mathlib.Core.Bool.{Bool, true, false, not, cond, _&&_, _||_, Bool·beq}
 use mathlib.Core.List.{List}
 use Prim.Native.Nat.{ℕ, zero, suc, _+_, _-_}
 use lib.Dec.{eqb, leb}
@@ -49,17 +49,12 @@ shutAt matrix floating = record { matrix = matrix; floating = floating; n = 0; a
 abbrev pub shut : Work → Position
 shut w = shutAt (w .matrix) (w .floating)
 
--- whether two flags agree
-abbrev pub alike : Bool → Bool → Bool
-alike true b = b
-alike false b = not b
-
 -- 23: of another calculation, root mode, n or a, or open with the whole count of visits or more; 24: already closed
 unfoldable pub positionVerdict : Bool → Bool → ℕ → ℕ → Position → Verdict
 positionVerdict matrix floating n a p =
-    orElse (plainOf 23 (not ((alike (p .matrix) matrix && alike (p .floating) floating) && (eqb (p .n) n && eqb (p .a) a))))
+    orElse (plainOf 23 ((not (Bool·beq (p .matrix) matrix) || not (Bool·beq (p .floating) floating)) || (not (eqb (p .n) n) || not (eqb (p .a) a))))
     (orElse (plainOf 23 (not (p .closed) && leb (visitsOf matrix n a) (p .visits)))
-    (plainOf 24 (not (not (p .closed)))))
+    (plainOf 24 (p .closed)))
 
 -- ---- one visit
 

@@ -17,10 +17,10 @@ use refusals::Place;
 use refusals::Verdict;
 
 // A length that is not the one asked for.
-pub fn check_length(number: u8, length: usize, wanted: usize) -> Verdict
-    ensures { λ r. ⌜ r ≡ plainOf number (not (eqb length wanted)) ⌝ }
+pub fn check_length(number: u8, given: usize, wanted: usize) -> Verdict
+    ensures { λ r. ⌜ r ≡ plainOf number (not (eqb given wanted)) ⌝ }
 {
-    refusals::plain(number, length != wanted)
+    refusals::plain(number, given != wanted)
 }
 
 fn bad_value<'a>(
@@ -54,8 +54,8 @@ fn lowest_bad_value<'a>(kinds: &'a [u8; 32], numbers: &'a [u8; 33], q: &'a [f64]
 
 // 11 and 12 of the values, 14 and 15 of the speeds: not as many as there are active joints, or one not finite.
 pub fn check_values<'a>(
-    counted: u8,
-    finite: u8,
+    miscounted: u8,
+    nonfinite: u8,
     kinds: &'a [u8; 32],
     numbers: &'a [u8; 33],
     n: usize,
@@ -63,12 +63,12 @@ pub fn check_values<'a>(
     q: &'a [f64],
 ) -> Verdict
     requires { ⌜ (now numbers ≡ activeNumbers (now kinds)) × (n ≤ 32) × (a ≡ activesOf (now kinds) n) ⌝ }
-    ensures { λ r. ⌜ r ≡ valuesVerdict counted finite (now (kinds .entry)) n (now (q .entry)) ⌝ }
+    ensures { λ r. ⌜ r ≡ valuesVerdict miscounted nonfinite (now (kinds .entry)) n (now (q .entry)) ⌝ }
 {
     if q.len() != a {
-        return Verdict::Refused(counted, Place::Nothing);
+        return Verdict::Refused(miscounted, Place::Nothing);
     }
-    refusals::named(finite, lowest_bad_value(kinds, numbers, q, n))
+    refusals::named(nonfinite, lowest_bad_value(kinds, numbers, q, n))
 }
 
 fn far_turn<'a>(
@@ -111,7 +111,8 @@ pub fn bad_rotation(r: Quaternion) -> bool
     ensures { λ b. ⌜ b ≡ badRotation r ⌝ }
 {
     let numbers = [r.w, r.u.x, r.u.y, r.u.z];
-    let finite = double::all_finite(&numbers);
-    let unit = !joint::not_unit(r);
-    !double::both(finite, unit)
+    if !double::all_finite(&numbers) {
+        return true;
+    }
+    joint::not_unit(r)
 }

@@ -1,8 +1,9 @@
 // Where a calculation stands, and how it goes on and closes.
+ghost use mathlib.Core.Bool.{_||_};
 ghost use mathlib.Core.Path.{_≡_};
 ghost use Prim.Native.Nat.{_+_, _≤_, _<_};
 ghost use lib.ListN.{length};
-ghost use Rattle.calls.specs.Position.{visitsOf, alike, freshAt, shutAt, positionVerdict, ended, advancedBy, closing, answerBy, begunAt, refusedAt};
+ghost use Rattle.calls.specs.Position.{visitsOf, freshAt, shutAt, positionVerdict, ended, advancedBy, closing, answerBy, begunAt, refusedAt};
 use numbers::double;
 use refusals::Place;
 use refusals::Verdict;
@@ -48,13 +49,13 @@ pub fn visits(matrix: bool, n: usize, a: usize) -> usize
     n + n + n + 1
 }
 
-fn same(a: bool, b: bool) -> bool
-    ensures { λ r. ⌜ r ≡ alike a b ⌝ }
+fn either(a: bool, b: bool) -> bool
+    ensures { λ r. ⌜ r ≡ (a || b) ⌝ }
 {
     if a {
-        return b;
+        return true;
     }
-    !b
+    b
 }
 
 fn has_ended(o: Outcome) -> bool
@@ -101,14 +102,12 @@ impl Position {
         requires { ⌜ (n ≤ 32) × (a ≤ 32) ⌝ }
         ensures { λ r. ⌜ r ≡ positionVerdict matrix floating n a self ⌝ }
     {
-        let open = !self.closed;
-        let of_root = double::both(same(self.matrix, matrix), same(self.floating, floating));
-        let of_model = double::both(self.n == n, self.a == a);
-        let own = double::both(of_root, of_model);
-        let over = double::both(open, visits(matrix, n, a) <= self.visits);
-        let other = refusals::plain(23, !own);
+        let other_calculation = either(self.matrix != matrix, self.floating != floating);
+        let other_model = either(self.n != n, self.a != a);
+        let over = double::both(!self.closed, visits(matrix, n, a) <= self.visits);
+        let other = refusals::plain(23, either(other_calculation, other_model));
         let spent = refusals::plain(23, over);
-        let closed = refusals::plain(24, !open);
+        let closed = refusals::plain(24, self.closed);
         refusals::first(other, refusals::first(spent, closed))
     }
 

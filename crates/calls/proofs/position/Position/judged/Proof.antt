@@ -3,26 +3,20 @@ use borrow.Author.Needs.{needs}
 use Rattle.calls.proofs.position.Position.judged.Statement.{statement}
 use Rattle.calls.proofs.position.Position.judged.Tie as tie
 
-same-requires : tie.Need-same-requires
-same-requires c κs = search needs
+either-requires : tie.Need-either-requires
+either-requires c κs = search needs
 
-same-requires-2 : tie.Need-same-requires-2
-same-requires-2 c κs = search needs
-
-both-requires : tie.Need-both-requires
-both-requires c κs = search needs
-
-both-requires-2 : tie.Need-both-requires-2
-both-requires-2 c κs = search needs
-
-both-requires-3 : tie.Need-both-requires-3
-both-requires-3 c κs = search needs
+either-requires-2 : tie.Need-either-requires-2
+either-requires-2 c κs = search needs
 
 visits-requires : tie.Need-visits-requires
 visits-requires c κs = search needs
 
-both-requires-4 : tie.Need-both-requires-4
-both-requires-4 c κs = search needs
+both-requires : tie.Need-both-requires
+both-requires c κs = search needs
+
+either-requires-3 : tie.Need-either-requires-3
+either-requires-3 c κs = search needs
 
 plain-requires : tie.Need-plain-requires
 plain-requires c κs = search needs
@@ -41,19 +35,32 @@ first-requires-2 c κs = search needs
 
 returns : tie.Need-returns
 unfolding positionVerdict
-returns c = cc
+returns c =
+    let b4 = c .before .before .before .before in
+    let b8 = b4 .before .before .before .before in
+    let b10 = b8 .before .before in
+    simp (
+      c .first2 .ensures,
+      c .before .first .ensures,
+      c .before .before .plain3 .ensures,
+      c .before .before .before .plain2 .ensures,
+      b4 .plain .ensures,
+      b4 .before .either3 .ensures,
+      b4 .before .before .both .ensures,
+      b8 .visits .ensures,
+      b10 .either2 .ensures,
+      b10 .before .before .before .either .ensures,
+    )
 
 pub judged-spec : {M : Type 1} → statement M
 judged-spec =
     tie.close
     (tie.spec
-    same-requires
-    same-requires-2
-    both-requires
-    both-requires-2
-    both-requires-3
+    either-requires
+    either-requires-2
     visits-requires
-    both-requires-4
+    both-requires
+    either-requires-3
     plain-requires
     plain-requires-2
     plain-requires-3
