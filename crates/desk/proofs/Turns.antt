@@ -1,4 +1,4 @@
--- However the reads cut the input, and the room for answers the output: `whole`. Assumes nothing.
+-- A run puts out what the bytes that it has read are answered, however they were cut into blocks: `whole`. Assumes nothing.
 use mathlib.Core.Bool.{cond}
 use mathlib.Core.Path.{_≡_, refl, sym, _∙_}
 use mathlib.Core.List.{List, [], _++_, append-assoc, append-nil}
@@ -13,7 +13,7 @@ use Rattle.desk.specs.Block.{State, newLine, endOf, answersOf, leftOf, o
 use Rattle.desk.specs.Turns.{stateOf, unread, readBy, ahead, Filled, Turned, Run, begun, turned}
 use Rattle.desk.proofs.block.Cut.{cuts}
 
--- ---- before a turn: some of the block is unread, or not
+-- ---- before a read: some of the block is left, or none
 
 pub left-over : (k : Kept) (block : List ℕ) → k .next < k .end → unread k block ≡ ahead k block k block
 left-over k block h = rw (lt-ltb (k .next) (k .end) h) (sym (append-nil _))
@@ -26,21 +26,21 @@ read-new k block h = rw (le-ltb (k .next) (k .end) h, none-left k block h)
 
 -- ---- behind a read
 
-module _ {k f r : Kept} (block : List ℕ) {line block′ line′ out′ : List ℕ} (fill : Filled k block f block′) where
-  pub read-first : r .end ≡ f .end → Turned f line (unread f block′) r block′ line′ out′ → Turned k line (ahead k block r block′) r block′ line′ out′
-  read-first e t =
-      let b : unread f block′ ≡ ahead k block r block′ = fill .bytes ∙ rw e in
-      record {
-        within = t .within;
-        answers = t .answers ∙ (λ i. answersOf (fill .state line i) (b i));
-        left = t .left ∙ (λ i. leftOf (fill .state line i) (b i));
-        takes = rw b at (t .takes);
-        ends = rw b at (t .ends);
-      }
+pub read-first : {k f r : Kept} (block : List ℕ) {line block′ line′ out′ : List ℕ} → Filled k block f block′ → r .end ≡ f .end
+    → Turned f line (unread f block′) r block′ line′ out′ → Turned k line (ahead k block r block′) r block′ line′ out′
+read-first {k} {f} {r} block {line} {block′} fill e t =
+    let b : unread f block′ ≡ ahead k block r block′ = fill .bytes ∙ rw e in
+    record {
+      within = t .within;
+      answers = t .answers ∙ (λ i. answersOf (fill .state line i) (b i));
+      left = t .left ∙ (λ i. leftOf (fill .state line i) (b i));
+      takes = rw b at (t .takes);
+      ends = rw b at (t .ends);
+    }
 
 -- ---- a run
 
--- what is put out and still to be answered is what the input so far is answered
+-- what is put out, with the answers to the rest behind, is the answers to the input so far
 Stands : List ℕ → List ℕ → State → List ℕ → Type 0
 Stands input output s rest = (output ++ answersOf s rest ≡ answersOf (newLine emptyModel) input) × (leftOf s rest ≡ leftOf (newLine emptyModel) input)
 
@@ -59,7 +59,7 @@ stands {block = block} {line = line} (begun b) = rw (b .bytes block, b .state li
 stands (turned {input} {output} {k} {r} {block} {line} {block′} {line′} {out′} run t) =
     stands-on input output (stateOf k line) (unread k block) (readBy k r block′) (take (r .put) out′) (stateOf r line′) (unread r block′) (stands run) (t .answers) (t .left)
 
--- all that a run has put out, and behind it what `last` puts out, is the output of all that it has read, once nothing of that is unread
+-- all that a run has put out, with what `last` puts out behind, is the output to all that it has read, once nothing of that is unread
 pub whole : {input output : List ℕ} {k : Kept} {block line : List ℕ} → Run input output k block line → unread k block ≡ []
     → (put : List ℕ) → put ≡ endOf (stateOf k line) .0 → output ++ put ≡ outputOf input
 unfolding Stands answersOf leftOf outputOf

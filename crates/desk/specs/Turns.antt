@@ -1,4 +1,4 @@
--- THE PROGRAM, turn by turn: what is read, and what is put out for it. Assumes nothing.
+-- THE PROGRAM, turn by turn: what has been read, and what has been put out for it. Assumes nothing.
 use Prim.Native.Nat.{ℕ, _≤_, _<_}
 use mathlib.Core.Bool.{false, cond}
 use mathlib.Core.Path.{_≡_}
@@ -17,6 +17,7 @@ stateOf k line = (k .model, (take (k .len) line, k .over))
 abbrev pub unread : Kept → List ℕ → List ℕ
 unread k block = drop (k .next) (take (k .end) block)
 
+-- in the block and in the line's room
 abbrev pub Within : Kept → Type 0
 Within k = (k .next ≤ k .end) × (k .end ≤ 65536) × (k .len < 65536)
 
@@ -26,30 +27,30 @@ pub record Begun (k : Kept) : Type 0 where
   pub bytes : (block : List ℕ) → unread k block ≡ []
   pub state : (line : List ℕ) → stateOf k line ≡ newLine emptyModel
 
--- what a turn from k to r has read into the block: nothing where some of it was unread
+-- what a turn from k to r reads: a new block, but nothing where some of the last one is unread
 abbrev pub readBy : Kept → Kept → List ℕ → List ℕ
 readBy k r block′ = cond (ltb (k .next) (k .end)) [] (take (r .end) block′)
 
--- so these are the bytes before it
+-- so it has these bytes ahead of it
 abbrev pub ahead : Kept → List ℕ → Kept → List ℕ → List ℕ
 ahead k block r block′ = unread k block ++ readBy k r block′
 
--- a read, or none: those bytes are unread then, and the state is as it was
+-- after the read, if there is one: those bytes are unread, and the state is as it was
 pub record Filled (k : Kept) (block : List ℕ) (r : Kept) (block′ : List ℕ) : Type 0 where
   pub within : Within r
   pub bytes : unread r block′ ≡ ahead k block r block′
   pub state : (line : List ℕ) → stateOf r line ≡ stateOf k line
 
--- A turn with these bytes before it: what it puts out, and behind that the answers to what it leaves unread, are the answers to them; and what will be left
--- is the same. Where there are any, it takes at least one; where there are none, the input has ended.
+-- A turn with these bytes ahead of it: what it puts out, with the answers to what it leaves unread behind, is the answers to them, and what will be left is the
+-- same. Where there are any it takes at least one, and where there are none the run ends.
 pub record Turned (k : Kept) (line bytes : List ℕ) (r : Kept) (block′ line′ out′ : List ℕ) : Type 0 where
   pub within : Within r
   pub answers : take (r .put) out′ ++ answersOf (stateOf r line′) (unread r block′) ≡ answersOf (stateOf k line) bytes
   pub left : leftOf (stateOf r line′) (unread r block′) ≡ leftOf (stateOf k line) bytes
   pub takes : 0 < length bytes → length (unread r block′) < length bytes
-  pub ends : bytes ≡ [] → r .live ≡ false
+  pub ends : bytes ≡ [] → (unread r block′ ≡ []) × (r .live ≡ false)
 
--- ---- a run of the program: all that was read and all that was put out, one behind the other, and where it stands
+-- ---- turns in a row: all that was read, all that was put out, what is kept, the block and the line
 pub data Run : List ℕ → List ℕ → Kept → List ℕ → List ℕ → Type 0 where
   begun : {k : Kept} {block line : List ℕ} → Begun k → Run [] [] k block line
   turned : {input output : List ℕ} {k r : Kept} {block line block′ line′ out′ : List ℕ} → Run input output k block line

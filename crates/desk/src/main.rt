@@ -13,8 +13,8 @@ use block::Stand;
 use block::answers;
 use block::end_line;
 
-// What is kept from turn to turn: which bytes of the block have not been looked at yet, from `next` up to `end`; the length of the line so far, and whether
-// it has grown too long; the current model; how many bytes of `out` the turn put out; and whether to go on.
+// What is kept from turn to turn: block[next..end] has not been looked at yet, the length of the line so far, whether it has grown too long, the current
+// model, how many bytes of `out` the turn has put out, and whether to go on.
 struct Kept {
     next: usize,
     end: usize,
@@ -71,7 +71,7 @@ fn begin() -> Kept
     }
 }
 
-// One read, where nothing is left of the block. It ends at 0 where the read gives nothing or fails.
+// One read, where nothing is left of the block; the new one ends at 0 where the read fails or the input has ended.
 fn fill(block: &mut [u8; 65536], k: Kept) -> Kept
     requires { ⌜ Within k ⌝ }
     ensures { λ r. ⌜ Filled k (now (block .entry)) r (now (block .exit)) ⌝ }
@@ -92,7 +92,7 @@ fn fill(block: &mut [u8; 65536], k: Kept) -> Kept
     }
 }
 
-// Answers what is left of the block, as far as `out` has room, and writes the answers.
+// Answers what is left of the block, as far as `out` has room, and writes the answers: at the end of each block, and before that where they grow too long.
 fn serve(block: &[u8], line: &mut [u8; 65536], out: &mut [u8; 262144], k: Kept) -> Kept
     requires { ⌜ (Within k) × (k .next < k .end) × (k .end ≤ length (now block)) ⌝ }
     ensures { λ r. ⌜ (r .end ≡ k .end) × Turned k (now (line .entry)) (unread k (now (block .entry))) r (now (block .entry)) (now (line .exit)) (now (out .exit)) ⌝ }
@@ -120,7 +120,7 @@ fn serve(block: &[u8], line: &mut [u8; 65536], out: &mut [u8; 262144], k: Kept) 
     }
 }
 
-// At most one read and one write. The input has ended where nothing is left to answer.
+// At most one read and one write. There is no byte to answer once the input has ended.
 fn turn(block: &mut [u8; 65536], line: &mut [u8; 65536], out: &mut [u8; 262144], k: Kept) -> Kept
     requires { ⌜ Within k ⌝ }
     ensures { λ r. ⌜ Turned k (now (line .entry)) (ahead k (now (block .entry)) r (now (block .exit))) r (now (block .exit)) (now (line .exit)) (now (out .exit)) ⌝ }
@@ -141,7 +141,7 @@ fn turn(block: &mut [u8; 65536], line: &mut [u8; 65536], out: &mut [u8; 262144],
     }
 }
 
-// The input has ended: a last line without a newline is answered like any other. How many bytes it puts out.
+// The input has ended: a last line without a newline is answered like any other. Answers how many bytes it has put out.
 fn last(line: &[u8; 65536], out: &mut [u8; 262144], k: Kept) -> usize
     requires { ⌜ k .len < 65536 ⌝ }
     ensures { λ r. ⌜ take r (now (out .exit)) ≡ endOf (stateOf k (now (line .entry))) .0 ⌝ }

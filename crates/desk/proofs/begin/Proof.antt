@@ -1,4 +1,4 @@
--- `begin` meets its contract. Nothing is there to read.
+-- `begin` meets its contract. Nothing is unread, and no line begun.
 use mathlib.Core.Path.{refl}
 use borrow.Author.Needs.{needs}
 use Rattle.desk.proofs.begin.Statement.{statement}

@@ -1,4 +1,4 @@
--- `fill` meets its contract. Either some is left, or nothing, as `left-over` and `read-new` have it.
+-- `fill` meets its contract. Some of the block is left, or none, as `left-over` and `read-new` have it.
 use mathlib.Core.Path.{refl}
 use borrow.Author.Needs.{needs}
 use Rattle.desk.proofs.Turns.{left-over, read-new}

@@ -1,4 +1,4 @@
--- `main` meets its contract. The turns are counted down.
+-- `main` meets its contract. The turns are counted down, and make a run.
 use mathlib.Core.List.{List, []}
 use Prim.Native.Nat.{ℕ}
 use borrow.Author.Needs.{needs}

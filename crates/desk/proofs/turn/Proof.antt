@@ -1,4 +1,4 @@
--- `turn` meets its contract. A read changes nothing but which bytes are unread; where there are none, nothing is put out.
+-- `turn` meets its contract. A read changes only which bytes are unread, and where there are none nothing is put out.
 use mathlib.Core.Path.{refl, sym, ap, _∙_}
 use native.Mathlib.Omega.{arith}
 use lib.ListN.{length}
@@ -26,13 +26,13 @@ returns-2 c =
     let b3 = b1 .before .before in
     let b5 = b3 .before .before in
     let fill = b3 .fill .ensures in
-    let e = sym (fill .bytes) ∙ none-left (b3 .fill .result) (b3 .fill .last .0) (b1 .if1 .left) in
+    let none = none-left (b3 .fill .result) (b3 .fill .last .0) (b1 .if1 .left) in
     record {
       within = fill .within;
       answers = λ i. answersOf (fill .state (b5 .args .line .now) i) (fill .bytes i);
       left = λ i. leftOf (fill .state (b5 .args .line .now) i) (fill .bytes i);
-      takes = λ h. omega (arith, ap length e);
-      ends = λ h. refl;
+      takes = λ h. omega (arith, ap length (sym (fill .bytes) ∙ none));
+      ends = λ h. (none, refl);
     }
 
 pub turn-spec : {M : Type 1} → statement M
