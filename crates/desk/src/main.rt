@@ -1,7 +1,9 @@
 // Reads requests from standard input, one to a line, and writes an answer for each.
 ghost use mathlib.Core.Path.{_≡_};
 ghost use Prim.Native.Nat.{_≤_, _<_};
-ghost use lib.ListN.{length};
+ghost use lib.ListN.{length, take};
+ghost use Rattle.desk.specs.Block.{endOf};
+ghost use Rattle.desk.specs.Turns.{Within, Begun, Filled, Turned, stateOf, unread, ahead};
 
 mod block;
 
@@ -11,11 +13,21 @@ use block::Stand;
 use block::answers;
 use block::end_line;
 
-// What is kept from block to block: the length of the line so far, whether it has grown too long, the current model, and whether to go on.
+// What is kept from turn to turn: block[next..end] has not been looked at yet, the length of the line so far, whether it has grown too long, the current
+// model, how many bytes of `out` the turn has put out, and whether to go on.
 struct Kept {
+    next: usize,
+    end: usize,
     len: usize,
     over: bool,
     model: Model,
+    put: usize,
+    live: bool,
+}
+
+// How many bytes were put out, and whether they were written.
+struct Put {
+    count: usize,
     live: bool,
 }
 
@@ -26,86 +38,117 @@ fn out_buffer() -> [u8; 262144]
     [0; 262144]
 }
 
-fn write_front(s: &[u8], n: usize) -> bool
-    requires { ⌜ n ≤ length (now s) ⌝ }
+fn write(s: &[u8]) -> Put
+    ensures { λ r. ⌜ r .count ≡ length (now (s .entry)) ⌝ }
 {
-    io::write_all(1, &s[..n])
+    let live = io::write_all(1, s);
+    Put {
+        count: s.len(),
+        live,
+    }
 }
 
-// Answers a block, and writes the answers at its end, and before that where they grow too long.
+fn write_front(s: &[u8], n: usize) -> Put
+    requires { ⌜ n ≤ length (now s) ⌝ }
+    ensures { λ r. ⌜ r .count ≡ n ⌝ }
+{
+    write(&s[..n])
+}
+
+// Before the first turn.
+fn begin() -> Kept
+    ensures { λ r. ⌜ Begun r ⌝ }
+{
+    let model = model::empty();
+    Kept {
+        next: 0,
+        end: 0,
+        len: 0,
+        over: false,
+        model,
+        put: 0,
+        live: true,
+    }
+}
+
+// One read, where nothing is left of the block; the new one ends at 0 where the read fails or the input has ended.
+fn fill(block: &mut [u8; 65536], k: Kept) -> Kept
+    requires { ⌜ Within k ⌝ }
+    ensures { λ r. ⌜ Filled k (now (block .entry)) r (now (block .exit)) ⌝ }
+{
+    if k.next < k.end {
+        return k;
+    }
+    let got = libc::read(0, block);
+    let model = k.model;
+    Kept {
+        next: 0,
+        end: io::count(got, block),
+        len: k.len,
+        over: k.over,
+        model,
+        put: k.put,
+        live: k.live,
+    }
+}
+
+// Answers what is left of the block, as far as `out` has room, and writes the answers: at the end of each block, and before that where they grow too long.
 fn serve(block: &[u8], line: &mut [u8; 65536], out: &mut [u8; 262144], k: Kept) -> Kept
-    requires { ⌜ k .len < 65536 ⌝ }
-    ensures { λ r. ⌜ r .len < 65536 ⌝ }
+    requires { ⌜ (Within k) × (k .next < k .end) × (k .end ≤ length (now block)) ⌝ }
+    ensures { λ r. ⌜ (r .end ≡ k .end) × Turned k (now (line .entry)) (unread k (now (block .entry))) r (now (block .entry)) (now (line .exit)) (now (out .exit)) ⌝ }
 {
     let model = k.model;
-    let mut s = Stand {
-        next: 0,
+    let end = k.end;
+    let s = Stand {
+        next: k.next,
         len: k.len,
         over: k.over,
         wait: 0,
         model,
     };
-    let mut live = true;
-    while s.next < block.len() && live {
-        let r = answers(block, s, line, out);
-        live = write_front(out, r.wait);
-        let model = r.model;
-        s = Stand {
-            next: r.next,
-            len: r.len,
-            over: r.over,
-            wait: 0,
-            model,
-        };
-    }
-    let model = s.model;
+    let r = answers(&block[..end], s, line, out);
+    let w = write_front(out, r.wait);
+    let model = r.model;
     Kept {
-        len: s.len,
-        over: s.over,
+        next: r.next,
+        end,
+        len: r.len,
+        over: r.over,
         model,
-        live,
+        put: w.count,
+        live: w.live,
     }
 }
 
-// The first n bytes of a block.
-fn serve_front(
-    block: &[u8],
-    n: usize,
-    line: &mut [u8; 65536],
-    out: &mut [u8; 262144],
-    k: Kept,
-) -> Kept
-    requires { ⌜ (n ≤ length (now block)) × (k .len < 65536) ⌝ }
-    ensures { λ r. ⌜ r .len < 65536 ⌝ }
-{
-    serve(&block[..n], line, out, k)
-}
-
-// One read, and what comes of it.
+// At most one read and one write. There is no byte to answer once the input has ended.
 fn turn(block: &mut [u8; 65536], line: &mut [u8; 65536], out: &mut [u8; 262144], k: Kept) -> Kept
-    requires { ⌜ k .len < 65536 ⌝ }
-    ensures { λ r. ⌜ r .len < 65536 ⌝ }
+    requires { ⌜ Within k ⌝ }
+    ensures { λ r. ⌜ Turned k (now (line .entry)) (ahead k (now (block .entry)) r (now (block .exit))) r (now (block .exit)) (now (line .exit)) (now (out .exit)) ⌝ }
 {
-    let got = libc::read(0, block);
-    if got <= 0 {
-        let model = k.model;
-        return Kept {
-            len: k.len,
-            over: k.over,
-            model,
-            live: false,
-        };
+    let f = fill(block, k);
+    if f.next < f.end {
+        return serve(block, line, out, f);
     }
-    let n = io::count(got, block);
-    serve_front(block, n, line, out, k)
+    let model = f.model;
+    Kept {
+        next: f.next,
+        end: f.end,
+        len: f.len,
+        over: f.over,
+        model,
+        put: 0,
+        live: false,
+    }
 }
 
-// The input has ended: a last line without a newline is answered like any other.
-fn last(line: &[u8; 65536], out: &mut [u8; 262144], k: Kept)
+// The input has ended: a last line without a newline is answered like any other. Answers how many bytes it has put out.
+fn last(line: &[u8; 65536], out: &mut [u8; 262144], k: Kept) -> usize
     requires { ⌜ k .len < 65536 ⌝ }
+    ensures { λ r. ⌜ take r (now (out .exit)) ≡ endOf (stateOf k (now (line .entry))) .0 ⌝ }
 {
     let r = end_line(k.model, line, k.len, k.over, out, 0);
-    write_front(out, r.end);
+    let w = write_front(out, r.end);
+    w.count
 }
 
 // A proved loop has to end, and nothing says that the input does: the turns are counted down from a number that no run uses up.
@@ -114,13 +157,7 @@ fn main() {
     let mut block = io::large_buffer();
     let mut line = io::large_buffer();
     let mut out = out_buffer();
-    let model = model::empty();
-    let mut k = Kept {
-        len: 0,
-        over: false,
-        model,
-        live: true,
-    };
+    let mut k = begin();
     let mut turns = u64::MAX;
     while turns > 0 && k.live {
         k = turn(&mut block, &mut line, &mut out, k);

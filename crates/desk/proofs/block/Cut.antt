@@ -7,11 +7,11 @@ use Rattle.words.specs.Line.{inLine, lineStep}
 use Rattle.arm.specs.Model.{emptyModel}
 use Rattle.desk.specs.Block.{State, newLine, endOf, answersOf, leftOf, outputOf}
 
-Cuts : State → List ℕ → List ℕ → Type 0
+abbrev pub Cuts : State → List ℕ → List ℕ → Type 0
 Cuts s a b = (answersOf s (a ++ b) ≡ answersOf s a ++ answersOf (leftOf s a) b) × (leftOf s (a ++ b) ≡ leftOf (leftOf s a) b)
 
-cuts : (s : State) (a b : List ℕ) → Cuts s a b
-unfolding Cuts answersOf leftOf
+pub cuts : (s : State) (a b : List ℕ) → Cuts s a b
+unfolding answersOf leftOf
 cuts s [] b = (refl, refl)
 cuts s (x ∷ a) b = go (inLine x) refl (cuts (s .0, lineStep (s .1) x) a b) (cuts (newLine (endOf s .1)) a b)
   where
@@ -24,5 +24,5 @@ pub blocks : (a b : List ℕ)
     → outputOf (a ++ b)
     ≡ answersOf (newLine emptyModel) a
     ++ (answersOf (leftOf (newLine emptyModel) a) b ++ endOf (leftOf (leftOf (newLine emptyModel) a) b) .0)
-unfolding outputOf Cuts
+unfolding outputOf
 blocks a b = let w = cuts (newLine emptyModel) a b in rw (w .0, w .1, append-assoc)

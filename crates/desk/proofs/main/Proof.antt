@@ -1,11 +1,13 @@
--- `main` meets its contract. The turns are counted down.
-use Prim.Native.Nat.{_<_}
+-- `main` meets its contract. The turns are counted down, and make a run.
+use mathlib.Core.List.{List, []}
+use Prim.Native.Nat.{ℕ}
 use borrow.Author.Needs.{needs}
+use Rattle.desk.specs.Turns.{Within, Run, begun, turned}
 use Rattle.desk.proofs.main.Statement.{statement}
 use Rattle.desk.proofs.main.Tie as tie
 
 abbrev Inv-loop : tie.InvT-loop
-Inv-loop block₀ line₀ out₀ k₀ turns₀ block line out k turns = k .len < 65536
+Inv-loop block₀ line₀ out₀ k₀ turns₀ block line out k turns = (Within k) × (input : List ℕ) × (output : List ℕ) × Run input output k block line
 
 abbrev μ-loop : tie.MeasureT-loop
 μ-loop block₀ line₀ out₀ k₀ turns₀ block line out k turns = turns
@@ -19,11 +21,11 @@ large-buffer-requires-2 c κs = search needs
 out-buffer-requires : tie.Need-out-buffer-requires Inv-loop μ-loop
 out-buffer-requires c κs = search needs
 
-empty-requires : tie.Need-empty-requires Inv-loop μ-loop
-empty-requires c κs = search needs
+begin-requires : tie.Need-begin-requires Inv-loop μ-loop
+begin-requires c κs = search needs
 
 loop-holds : tie.Need-loop-holds Inv-loop μ-loop
-loop-holds c = search needs
+loop-holds c = (c .begin .ensures .within, [], [], begun (c .begin .ensures))
 
 turn-requires : tie.Need-turn-requires Inv-loop μ-loop
 turn-requires c κs = search needs
@@ -35,7 +37,9 @@ loop-less : tie.Need-loop-less Inv-loop μ-loop
 loop-less c = search needs
 
 loop-again : tie.Need-loop-again Inv-loop μ-loop
-loop-again c = search needs
+loop-again c =
+    let i = c .before .before .before .before .before .before .loop .inv in
+    (c .turn .ensures .within, _, _, turned (i .3) (c .turn .ensures))
 
 last-requires : tie.Need-last-requires Inv-loop μ-loop
 last-requires c κs = search needs
@@ -52,7 +56,7 @@ main-spec =
     large-buffer-requires
     large-buffer-requires-2
     out-buffer-requires
-    empty-requires
+    begin-requires
     loop-holds
     turn-requires
     sub-turns

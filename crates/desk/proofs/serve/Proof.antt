@@ -1,44 +1,42 @@
--- `serve` meets its contract. Nothing waits at the start of a turn, and each turn takes at least a byte.
-use mathlib.Core.Path.{_≡_}
-use Prim.Native.Nat.{_-_, _≤_, _<_}
-use lib.ListN.{length}
+-- `serve` meets its contract. What `answers` moved over is put out.
+use mathlib.Core.Path.{refl, sym, ap}
+use native.Mathlib.Omega.{arith}
+use lib.ListN.{length, take, length-drop}
+use lib.Seq.{length-take-le}
 use borrow.Author.Needs.{needs}
 use Rattle.desk.proofs.serve.Statement.{statement}
 use Rattle.desk.proofs.serve.Tie as tie
 
-abbrev Inv-loop : tie.InvT-loop
-Inv-loop block line₀ out₀ s₀ live₀ line out s live = (s .next ≤ length block) × (s .len < 65536) × (s .wait ≡ 0)
+slice-aggregate-answers : tie.Need-slice-aggregate-answers
+slice-aggregate-answers c =
+    let b3 = c .before .before .before in
+    sym (length-take-le (b3 .args .k .end) (b3 .args .block .now) (omega arith))
 
-abbrev μ-loop : tie.MeasureT-loop
-μ-loop block line₀ out₀ s₀ live₀ line out s live = length block - s .next
+answers-requires : tie.Need-answers-requires
+answers-requires c κs =
+    let b5 = c .before .before .before .before .before in
+    let l = length-take-le (b5 .args .k .end) (b5 .args .block .now) (omega arith) in
+    (omega arith, search needs, search needs)
 
-loop-holds : tie.Need-loop-holds Inv-loop μ-loop
-loop-holds c = search needs
-
-answers-requires : tie.Need-answers-requires Inv-loop μ-loop
-answers-requires c κs = search needs
-
-write-front-requires : tie.Need-write-front-requires Inv-loop μ-loop
+write-front-requires : tie.Need-write-front-requires
 write-front-requires c κs = search needs
 
-loop-less : tie.Need-loop-less Inv-loop μ-loop
-loop-less c = search needs
-
-loop-again : tie.Need-loop-again Inv-loop μ-loop
-loop-again c = search needs
-
-returns : tie.Need-returns Inv-loop μ-loop
-returns c = search needs
+returns : tie.Need-returns
+returns c =
+    let b1 = c .before in
+    let b4 = b1 .before .before .before in
+    let b10 = b4 .before .before .before .before .before .before in
+    let l = length-take-le (b10 .args .k .end) (b10 .args .block .now) (omega arith) in (
+      refl,
+      record {
+        within = (omega arith, omega arith, omega arith);
+        answers = rw (b1 .write-front .ensures) (b4 .answers .ensures .1 .answers);
+        left = b4 .answers .ensures .1 .left;
+        takes = λ h. simp length-drop (omega arith);
+        ends = λ h. absurd (omega (arith, length-drop (b10 .args .k .next) (take (b10 .args .k .end) (b10 .args .block .now)), ap length h));
+      },
+    )
 
 pub serve-spec : {M : Type 1} → statement M
 serve-spec =
-    tie.close
-    (tie.spec
-    Inv-loop
-    μ-loop
-    loop-holds
-    answers-requires
-    write-front-requires
-    loop-less
-    loop-again
-    returns)
+    tie.close (tie.spec slice-aggregate-answers answers-requires write-front-requires returns)
