@@ -14,7 +14,7 @@ both-requires-2 c κs = search needs
 
 returns : tie.Need-returns
 unfolding unit
-returns c = cc
+returns c = let b1 = c .before in simp (c .both2 .ensures, b1 .both .ensures, b1 .before .abs .ensures)
 
 pub is-unit-spec : {M : Type 1} → statement M
 is-unit-spec = tie.close (tie.spec abs-requires both-requires both-requires-2 returns)

@@ -40,7 +40,7 @@ same-length-3 c = search needs
 
 returns-3 : tie.Need-returns-3
 unfolding closing
-returns-3 c = cc
+returns-3 c = let b2 = c .before .before in simp (b2 .clear2 .ensures, b2 .before .before .enum-told3 .given .1)
 
 pub close-spec : {M : Type 1} → statement M
 close-spec =

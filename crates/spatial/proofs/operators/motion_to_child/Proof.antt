@@ -20,7 +20,11 @@ rotate-requires-2 c κs = search needs
 
 returns : tie.Need-returns
 unfolding motionToChild
-returns c = cc
+returns c =
+    let b1 = c .before in
+    let b2 = b1 .before in
+    let b3 = b2 .before in
+    simp (c .rotate2 .ensures, b1 .plus .ensures, b2 .cross .ensures, b3 .rotate .ensures, b3 .before .inverse .ensures)
 
 pub motion-to-child-spec : {M : Type 1} → statement M
 motion-to-child-spec =

@@ -11,7 +11,7 @@ has-ended-requires c κs = search needs
 
 returns : tie.Need-returns
 unfolding advancedBy
-returns c = cc
+returns c = rw (c .has-ended .ensures)
 
 pub advanced-spec : {M : Type 1} → statement M
 advanced-spec = tie.close (tie.spec add-t4 has-ended-requires returns)
