@@ -48,8 +48,8 @@ abbrev pub resultsPlace : ℕ → ℕ
 resultsPlace n = n * 95 + 48
 
 -- how many numbers n joints need
-abbrev pub roomFor : ℕ → ℕ
-roomFor n = n * 96 + 64
+abbrev pub roomOf : ℕ → ℕ
+roomOf n = n * 96 + 64
 
 -- ---- what the steps of the code promise each other
 
@@ -57,4 +57,4 @@ roomFor n = n * 96 + 64
 pub record Room (p : Plan) (ws : ℕ) : Type 0 where
   pub few : p .n ≤ 32
   pub small : p .side ≤ p .n + 6
-  pub room : roomFor (p .n) ≤ ws
+  pub room : roomOf (p .n) ≤ ws

@@ -24,3 +24,8 @@ pub const ROOT_FORCE: usize = 36;
 pub const ROOT_ACCELERATION: usize = 42;
 
 pub const RESULTS: usize = 48;
+
+// A workspace has n * ROOM_JOINT + ROOM_ROOT numbers or more.
+pub const ROOM_JOINT: usize = 96;
+
+pub const ROOM_ROOT: usize = 64;

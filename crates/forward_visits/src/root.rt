@@ -2,7 +2,7 @@
 ghost use mathlib.Core.Path.{_≡_};
 ghost use Prim.Native.Nat.{_*_, _≤_};
 ghost use lib.ListN.{length};
-ghost use Rattle.forward_visits.specs.Layout.{roomFor, Room};
+ghost use Rattle.forward_visits.specs.Layout.{roomOf, Room};
 ghost use Rattle.forward_visits.specs.Root.{putRoot, begunOf, baseAt, floatingRoot, rootVisit};
 use crate::layout;
 use crate::loads;
@@ -18,7 +18,7 @@ use spatial::wrench::Wrench;
 
 // The root's own inertia and bias force.
 fn put_root(n: usize, velocity: Twist, links: &[f64; 330], load: Wrench, ws: &mut [f64])
-    requires { ⌜ (n ≤ 32) × (roomFor n ≤ length (now ws)) ⌝ }
+    requires { ⌜ (n ≤ 32) × (roomOf n ≤ length (now ws)) ⌝ }
     ensures { λ _. ⌜ now (ws .exit) ≡ putRoot n velocity (now (links .entry)) load (now (ws .entry)) ⌝ }
 {
     let link = model::link_at(links, 0);
@@ -38,7 +38,7 @@ pub fn begin<'a>(
     ws: &mut [f64],
     at: usize,
 )
-    requires { ⌜ (length (now loads) ≡ 6 * length (now loaded)) × (n ≤ 32) × (roomFor n ≤ length (now ws)) ⌝ }
+    requires { ⌜ (length (now loads) ≡ 6 * length (now loaded)) × (n ≤ 32) × (roomOf n ≤ length (now ws)) ⌝ }
     ensures { λ _. ⌜ now (ws .exit) ≡ begunOf n velocity (now (links .entry)) (now (loaded .entry)) (now (loads .entry)) at (now (ws .entry)) ⌝ }
 {
     if at != 0 {
@@ -57,7 +57,7 @@ fn base_at<'a>(
     forces: &'a [f64],
     ws: &'a [f64],
 ) -> Base
-    requires { ⌜ (n ≤ 32) × (roomFor n ≤ length (now ws)) × (6 ≤ length (now forces)) ⌝ }
+    requires { ⌜ (n ≤ 32) × (roomOf n ≤ length (now ws)) × (6 ≤ length (now forces)) ⌝ }
     ensures { λ r. ⌜ r ≡ baseAt n rotation velocity (now (forces .entry)) (now (ws .entry)) ⌝ }
 {
     let inertia = slots::mat6_at(ws, n * layout::JOINT);
@@ -74,7 +74,7 @@ fn floating_root<'a>(
     forces: &'a [f64],
     ws: &mut [f64],
 ) -> Verdict
-    requires { ⌜ (n ≤ 32) × (roomFor n ≤ length (now ws)) × (6 ≤ length (now forces)) ⌝ }
+    requires { ⌜ (n ≤ 32) × (roomOf n ≤ length (now ws)) × (6 ≤ length (now forces)) ⌝ }
     ensures { λ r. ⌜ (r, now (ws .exit)) ≡ floatingRoot n rotation velocity (now (forces .entry)) (now (ws .entry)) ⌝ }
 {
     let b = base_at(n, rotation, velocity, forces, ws);

@@ -4,7 +4,7 @@ ghost use Prim.Native.Nat.{_+_, _≤_, _<_};
 ghost use lib.ListN.{length};
 ghost use Rattle.arm.specs.Model.{Tree};
 ghost use Rattle.calls.specs.Plan.{Fit};
-ghost use Rattle.forward_visits.specs.Layout.{roomFor, Room};
+ghost use Rattle.forward_visits.specs.Layout.{roomOf, Room};
 ghost use Rattle.forward_visits.specs.Third.{carriedAt, solvedJoint, thirdVisit};
 use crate::first;
 use crate::layout;
@@ -21,7 +21,7 @@ use spatial::twist::Twist;
 
 // Joint j's link before the joint's own acceleration.
 fn carried_at<'a>(n: usize, parents: &'a [u8; 32], ws: &'a [f64], j: usize) -> Twist
-    requires { ⌜ Tree n (now parents) × (roomFor n ≤ length (now ws)) × (j < n) ⌝ }
+    requires { ⌜ Tree n (now parents) × (roomOf n ≤ length (now ws)) × (j < n) ⌝ }
     ensures { λ r. ⌜ r ≡ carriedAt n (now (parents .entry)) j (now (ws .entry)) ⌝ }
 {
     let parent = model::parent_at(n, parents, j);
