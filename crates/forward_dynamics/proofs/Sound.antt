@@ -9,7 +9,7 @@ use Rattle.calls.specs.Position.{visitsOf}
 use Rattle.calls.specs.Portions.{Sound}
 use Rattle.calls.specs.Plan.{planBy, planOf}
 use Rattle.forward_visits.proofs.Kept.{length-visit, last-ends, others-wait}
-use Rattle.forward_dynamics.specs.ForwardDynamics.{floats, rotationOf, baseOf, forwardDynamics}
+use Rattle.forward_dynamics.specs.ForwardDynamics.{floats, rotationOf, baseVelocity, forwardDynamics}
 use Rattle.forward_dynamics.specs.declared.forward_dynamics.Mode.{Mode}
 
 pub sound : (mode : Mode) (m : Model) (q qd forces : List Float) (loaded : List ℕ) (loads : List Float) → Sound (forwardDynamics mode m q qd forces loaded loads)
@@ -17,7 +17,7 @@ unfolding forwardDynamics visitsOf planBy
 sound mode m q qd forces loaded loads =
     let p = planOf (floats mode) (m .n) (m .kinds) in
     let rotation = rotationOf mode in
-    let velocity = rootVelocity rotation (baseOf mode) in
+    let velocity = rootVelocity rotation (baseVelocity mode) in
     record {
       kept = length-visit p rotation velocity m q qd forces loaded loads;
       ends = λ k ws e. last-ends p rotation velocity m q qd forces loaded loads k ws (omega arith);

@@ -1,7 +1,7 @@
 -- The checks of forward dynamics to 22 (document 01, "Refusal numbers"). Definitions only.
-use mathlib.Core.Bool.{Bool, not, cond, _&&_}
+use mathlib.Core.Bool.{Bool, not, cond, _||_}
 use mathlib.Core.List.{List}
-use Prim.Native.Nat.{ℕ, zero, suc, _+_, _*_}
+use Prim.Native.Nat.{ℕ, zero, suc, _*_}
 use lib.Dec.{eqb, ltb}
 use lib.ListN.{length, getD}
 use lib.Ieee.{Float, nan}
@@ -18,6 +18,7 @@ use Rattle.slots.specs.Slots.{wrenchAt}
 use Rattle.arm.specs.Model.{wildOf}
 use Rattle.calls.specs.Checks.{valuesVerdict, turnsVerdict, badRotation}
 use Rattle.calls.specs.Plan.{planOf}
+use Rattle.forward_visits.specs.Layout.{roomOf}
 
 unfoldable pub wildNumber : List Float → ℕ → Bool
 wildNumber s i = not (finite (getD s i nan))
@@ -66,7 +67,7 @@ loadsVerdict n loaded loads =
 
 -- 22: a fixed root's base velocity is +0.0
 unfoldable pub rootVerdict : Quaternion → Twist → Verdict
-rootVerdict rotation base = plainOf 22 (not (not (badRotation rotation) && finiteOf base))
+rootVerdict rotation base = plainOf 22 (badRotation rotation || not (finiteOf base))
 
 unfoldable pub restVerdict : ℕ → ℕ → Quaternion → Twist → List ℕ → List Float → List Float → List Float → List ℕ → List Float → ℕ → Verdict
 restVerdict n side rotation base kinds q qd forces loaded loads out =
@@ -79,6 +80,6 @@ restVerdict n side rotation base kinds q qd forces loaded loads out =
 unfoldable pub inputsVerdict : Bool → Quaternion → Twist → ℕ → List ℕ → List ℕ → List Float → List Float → List Float → List ℕ → List Float → ℕ → ℕ → Verdict
 inputsVerdict floating rotation base n parents kinds q qd forces loaded loads ws out =
     orElse (plainOf 9 (wildOf n parents kinds))
-    (orElse (plainOf 10 (ltb ws (n * 96 + 64)))
+    (orElse (plainOf 10 (ltb ws (roomOf n)))
     (orElse (valuesVerdict 11 12 kinds n q)
     (restVerdict n (planOf floating n kinds .side) rotation base kinds q qd forces loaded loads out)))

@@ -13,7 +13,7 @@ use Rattle.calls.specs.Position.{Work}
 use Rattle.calls.specs.declared.position.Position.{Position}
 use Rattle.articulated.specs.Root.{rootVelocity}
 use Rattle.calls.specs.Plan.{planOf, Fit}
-use Rattle.forward_visits.specs.Layout.{Room}
+use Rattle.forward_visits.specs.Layout.{resultsPlace, Room}
 use Rattle.forward_dynamics.specs.Checks.{inputsVerdict}
 use Rattle.forward_visits.specs.Kernel.{visitOf}
 use Rattle.forward_dynamics.specs.declared.forward_dynamics.Mode.{Mode}
@@ -29,9 +29,9 @@ abbrev pub rotationOf : Mode → Quaternion
 rotationOf (Fixed rotation) = rotation
 rotationOf (Floating rotation base) = rotation
 
-abbrev pub baseOf : Mode → Twist
-baseOf (Fixed rotation) = zerosOf
-baseOf (Floating rotation base) = base
+abbrev pub baseVelocity : Mode → Twist
+baseVelocity (Fixed rotation) = zerosOf
+baseVelocity (Floating rotation base) = base
 
 unfoldable pub forwardDynamics : Mode → Model → List Float → List Float → List Float → List ℕ → List Float → Work
 forwardDynamics mode m q qd forces loaded loads =
@@ -40,9 +40,9 @@ forwardDynamics mode m q qd forces loaded loads =
       floating = floats mode;
       n = m .n;
       a = activesOf (m .kinds) (m .n);
-      inputs = inputsVerdict (floats mode) (rotationOf mode) (baseOf mode) (m .n) (m .parents) (m .kinds) q qd forces loaded loads;
-      visit = visitOf (planOf (floats mode) (m .n) (m .kinds)) (rotationOf mode) (rootVelocity (rotationOf mode) (baseOf mode)) m q qd forces loaded loads;
-      results = m .n * 95 + 48;
+      inputs = inputsVerdict (floats mode) (rotationOf mode) (baseVelocity mode) (m .n) (m .parents) (m .kinds) q qd forces loaded loads;
+      visit = visitOf (planOf (floats mode) (m .n) (m .kinds)) (rotationOf mode) (rootVelocity (rotationOf mode) (baseVelocity mode)) m q qd forces loaded loads;
+      results = resultsPlace (m .n);
     }
 
 -- ---- what the steps of the code promise each other

@@ -10,6 +10,7 @@ use arm::model;
 use arm::topology;
 use calls::checks;
 use calls::plan;
+use forward_visits::layout;
 use numbers::double;
 use numbers::quaternion::Quaternion;
 use refusals;
@@ -111,10 +112,10 @@ fn judged_motion<'a>(
 fn judged_forces(side: usize, forces: &[f64], out: usize) -> Verdict
     ensures { λ v. ⌜ v ≡ forcesVerdict side (now (forces .entry)) out ⌝ }
 {
-    let length = checks::check_length(16, forces.len(), side);
+    let given = checks::check_length(16, forces.len(), side);
     let output = checks::check_length(17, out, side);
-    let finite = refusals::named(18, lowest_wild(forces));
-    refusals::first(length, refusals::first(output, finite))
+    let wild = refusals::named(18, lowest_wild(forces));
+    refusals::first(given, refusals::first(output, wild))
 }
 
 // Six times as many: no product that could be too large.
@@ -142,8 +143,10 @@ fn judged_loads<'a>(n: usize, loaded: &'a [u64], loads: &'a [f64]) -> Verdict
 fn judged_root(rotation: Quaternion, base: Twist) -> Verdict
     ensures { λ v. ⌜ v ≡ rootVerdict rotation base ⌝ }
 {
-    let good = double::both(!checks::bad_rotation(rotation), base.is_finite());
-    refusals::plain(22, !good)
+    if checks::bad_rotation(rotation) {
+        return Verdict::Refused(22, Place::Nothing);
+    }
+    refusals::plain(22, !base.is_finite())
 }
 
 // 13 to 22.
@@ -198,7 +201,7 @@ pub fn judged<'a>(
     if model::wild(n, parents, kinds) {
         return Verdict::Refused(9, Place::Nothing);
     }
-    if ws < n * 96 + 64 {
+    if ws < n * layout::ROOM_JOINT + layout::ROOM_ROOT {
         return Verdict::Refused(10, Place::Nothing);
     }
     let a = topology::number_at(kinds, numbers, n);

@@ -1,15 +1,15 @@
 // The public calls: start, portion and the undivided call, each on a fixed and on a floating root.
 ghost use mathlib.Core.Bool.{true, false};
 ghost use mathlib.Core.Path.{_≡_};
-ghost use Prim.Native.Nat.{_+_, _*_};
 ghost use lib.ListN.{length};
 ghost use Rattle.arm.specs.Model.{bundle};
 ghost use Rattle.arm.specs.Topology.{activesOf, activeNumbers};
 ghost use Rattle.calls.specs.Position.{positionVerdict, landed, stepBy, iterate, opening, startOf, portionOf, wholeOf};
 ghost use Rattle.refusals.specs.Refusals.{orElse};
+ghost use Rattle.forward_visits.specs.Layout.{resultsPlace};
 ghost use Rattle.forward_visits.specs.Kernel.{visitOf};
 ghost use Rattle.forward_dynamics.specs.Checks.{inputsVerdict};
-ghost use Rattle.forward_dynamics.specs.ForwardDynamics.{floats, rotationOf, baseOf, forwardDynamics, Ready, Within};
+ghost use Rattle.forward_dynamics.specs.ForwardDynamics.{floats, rotationOf, baseVelocity, forwardDynamics, Ready, Within};
 use crate::checks;
 use arm::model::Model;
 use arm::topology;
@@ -22,6 +22,7 @@ use calls::position::Outcome;
 use calls::position::Position;
 use calls::position::Progress;
 use forward_visits::kernel;
+use forward_visits::layout;
 use numbers::quaternion::Quaternion;
 use refusals::Verdict;
 use spatial::twist::Twist;
@@ -52,7 +53,7 @@ impl Mode {
     }
 
     fn base(self) -> Twist
-        ensures { λ r. ⌜ r ≡ baseOf self ⌝ }
+        ensures { λ r. ⌜ r ≡ baseVelocity self ⌝ }
     {
         match self {
             Mode::Fixed(_) => Twist::zeros(),
@@ -82,7 +83,7 @@ fn step<'a>(
     s: Position,
 ) -> Progress
     requires { ⌜ Ready p (now parents) (now kinds) (now numbers) (length (now q)) (length (now qd)) (length (now forces)) (length (now loaded)) (length (now loads)) (length (now ws)) (length (now out)) × Within p s × (s .closed ≡ false) ⌝ }
-    ensures { λ t. ⌜ ((t, now (ws .exit), now (out .exit)) ≡ landed (p .n * 95 + 48) (opening s, now (ws .entry), now (out .entry)) (visitOf p rotation velocity (bundle (p .n) (now (parents .entry)) (now (kinds .entry)) (now (origins .entry)) (now (axes .entry)) (now (links .entry))) (now (q .entry)) (now (qd .entry)) (now (forces .entry)) (now (loaded .entry)) (now (loads .entry)) (s .visits) (now (ws .entry)))) × Within p (t .position) ⌝ }
+    ensures { λ t. ⌜ ((t, now (ws .exit), now (out .exit)) ≡ landed (resultsPlace (p .n)) (opening s, now (ws .entry), now (out .entry)) (visitOf p rotation velocity (bundle (p .n) (now (parents .entry)) (now (kinds .entry)) (now (origins .entry)) (now (axes .entry)) (now (links .entry))) (now (q .entry)) (now (qd .entry)) (now (forces .entry)) (now (loaded .entry)) (now (loads .entry)) (s .visits) (now (ws .entry)))) × Within p (t .position) ⌝ }
 {
     let n = p.n;
     let at = s.visits;
@@ -104,7 +105,7 @@ fn step<'a>(
         ws,
         at,
     );
-    position::close(o, ws, out, n * 95 + 48);
+    position::close(o, ws, out, n * layout::JOINT + layout::RESULTS);
     s.advanced(o)
 }
 
@@ -130,7 +131,7 @@ fn run<'a>(
     budget: usize,
 ) -> Progress
     requires { ⌜ Ready p (now parents) (now kinds) (now numbers) (length (now q)) (length (now qd)) (length (now forces)) (length (now loaded)) (length (now loads)) (length (now ws)) (length (now out)) × Within p from ⌝ }
-    ensures { λ t. ⌜ (t, now (ws .exit), now (out .exit)) ≡ iterate (stepBy (visitOf p rotation velocity (bundle (p .n) (now (parents .entry)) (now (kinds .entry)) (now (origins .entry)) (now (axes .entry)) (now (links .entry))) (now (q .entry)) (now (qd .entry)) (now (forces .entry)) (now (loaded .entry)) (now (loads .entry))) (p .n * 95 + 48)) budget (opening from, now (ws .entry), now (out .entry)) ⌝ }
+    ensures { λ t. ⌜ (t, now (ws .exit), now (out .exit)) ≡ iterate (stepBy (visitOf p rotation velocity (bundle (p .n) (now (parents .entry)) (now (kinds .entry)) (now (origins .entry)) (now (axes .entry)) (now (links .entry))) (now (q .entry)) (now (qd .entry)) (now (forces .entry)) (now (loaded .entry)) (now (loads .entry))) (resultsPlace (p .n))) budget (opening from, now (ws .entry), now (out .entry)) ⌝ }
 {
     let mut s = Progress {
         position: from,

@@ -2,7 +2,7 @@
 use mathlib.Core.Bool.{Bool, true, false}
 use mathlib.Core.List.{List}
 use mathlib.Core.Path.{_≡_, refl, _∙_}
-use Prim.Native.Nat.{ℕ, zero, suc, _+_, _-_, _*_}
+use Prim.Native.Nat.{ℕ, zero, suc, _+_, _-_}
 use native.Mathlib.Omega.{arith}
 use borrow.Author.Tests.{eq-eqb, ne-eqb}
 use lib.Dec.{eqb, ltb}
@@ -14,14 +14,16 @@ use Rattle.refusals.specs.declared.Verdict.{Verdict}
 use Rattle.refusals.specs.declared.Verdict.the-variants.{Fine, Refused}
 use Rattle.spatial.specs.declared.twist.Twist.{Twist}
 use Rattle.slots.proofs.Lengths.{length-putTo, length-putTwist, length-putWrench, length-putFrame, length-zeroTo}
-use Rattle.arm.specs.Joint.{isFixed}
-use Rattle.arm.specs.Model.{parentOf, kindOf}
+use Rattle.arm.specs.Model.{parentOf, motionOf}
+use Rattle.arm.specs.Topology.{activesOf}
+use Rattle.arm.specs.declared.joint.Motion.{Motion}
 use Rattle.arm.specs.declared.model.Model.{Model}
 use Rattle.calls.specs.Position.{ended}
 use Rattle.calls.specs.declared.position.Outcome.the-variants.{Accepted}
 use Rattle.calls.proofs.Kept.{either-way}
+use Rattle.forward_visits.specs.Layout.{loadPlace, inertiaPlace, rootInertiaPlace, resultsPlace}
 use Rattle.forward_visits.specs.First.{putFirst, firstVisit}
-use Rattle.forward_visits.specs.Second.{putTerm, unlessRefused, keptTerm, eliminated, addBody, addInto, propagated, secondVisit}
+use Rattle.forward_visits.specs.Second.{fixedBy, putTerm, unlessRefused, keptTerm, eliminated, addBody, addMoved, addWhole, addReduced, addInto, propagated, secondVisit}
 use Rattle.forward_visits.specs.Loads.{loadsTo}
 use Rattle.forward_visits.specs.Root.{putRoot, begunOf, keptBase, floatingRoot, rootVisit}
 use Rattle.forward_visits.specs.Third.{keptJoint, solvedJoint, thirdVisit}
@@ -41,7 +43,7 @@ size-unless (Refused number p) ws done l d e = d
 length-loads : (loaded : List ℕ) (loads : List Float) (n : ℕ) (ws : List Float) → length (loadsTo loaded loads n ws) ≡ length ws
 unfolding loadsTo
 length-loads loaded loads zero ws = refl
-length-loads loaded loads (suc j) ws = length-putWrench (loadsTo loaded loads j ws) (j * 95 + 75) _ ∙ length-loads loaded loads j ws
+length-loads loaded loads (suc j) ws = length-putWrench (loadsTo loaded loads j ws) (loadPlace j) _ ∙ length-loads loaded loads j ws
 
 length-begun : (n : ℕ) (velocity : Twist) (links : List Float) (loaded : List ℕ) (loads : List Float) (at : ℕ) (ws : List Float) → length (begunOf n velocity links loaded loads at ws) ≡ length ws
 unfolding begunOf putRoot
@@ -51,37 +53,38 @@ length-first : (velocity : Twist) (m : Model) (q qd : List Float) (j : ℕ) (ws 
 unfolding firstVisit putFirst
 length-first velocity m q qd j ws = simp (length-putTo, length-putWrench, length-putTwist, length-putFrame)
 
-length-addInto : (fixed : Bool) (at j : ℕ) (ws : List Float) → length (addInto fixed at j ws) ≡ length ws
-unfolding addInto addBody
-length-addInto fixed at j ws = simp (length-putWrench, length-putTo)
+length-addInto : (motion : Motion) (at j : ℕ) (ws : List Float) → length (addInto motion at j ws) ≡ length ws
+unfolding addInto addWhole addReduced addMoved addBody
+length-addInto motion at j ws = either-way length (fixedBy motion) (simp (length-putWrench, length-putTo)) (simp (length-putWrench, length-putTo))
 
-length-propagated : (p : Plan) (kind parent j : ℕ) (ws : List Float) → length (propagated p kind parent j ws) ≡ length ws
+length-propagated : (p : Plan) (motion : Motion) (parent j : ℕ) (ws : List Float) → length (propagated p motion parent j ws) ≡ length ws
 unfolding propagated
-length-propagated p kind parent j ws =
+length-propagated p motion parent j ws =
     either-way length (eqb parent 0)
-    (either-way length (eqb (p .lead) 0) refl (length-addInto (isFixed kind) (p .n * 95) j ws))
-    (length-addInto (isFixed kind) ((parent - 1) * 95 + 19) j ws)
+    (either-way length (eqb (p .lead) 0) refl (length-addInto motion (rootInertiaPlace (p .n)) j ws))
+    (length-addInto motion (inertiaPlace (parent - 1)) j ws)
 
-size-eliminated : (p : Plan) (kinds : List ℕ) (axes forces : List Float) (j : ℕ) (ws : List Float) → size (eliminated p kinds axes forces j ws) ≡ length ws
+size-eliminated : (p : Plan) (motion : Motion) (number : ℕ) (forces : List Float) (j : ℕ) (ws : List Float) → size (eliminated p motion number forces j ws) ≡ length ws
 unfolding eliminated keptTerm putTerm
-size-eliminated p kinds axes forces j ws = either-way size (isFixed (kindOf kinds j)) refl (size-unless _ ws _ (length ws) refl (simp (length-set, length-putWrench)))
+size-eliminated p motion number forces j ws = either-way size (fixedBy motion) refl (size-unless _ ws _ (length ws) refl (simp (length-set, length-putWrench)))
 
 size-second : (p : Plan) (parents kinds : List ℕ) (axes forces : List Float) (j : ℕ) (ws : List Float) → size (secondVisit p parents kinds axes forces j ws) ≡ length ws
 unfolding secondVisit
 size-second p parents kinds axes forces j ws =
-    let e = size-eliminated p kinds axes forces j ws in
-    size-unless _ _ _ (length ws) e (length-propagated p (kindOf kinds j) (parentOf parents j) j _ ∙ e)
+    let motion = motionOf kinds axes j in
+    let e = size-eliminated p motion (activesOf kinds j) forces j ws in
+    size-unless _ _ _ (length ws) e (length-propagated p motion (parentOf parents j) j _ ∙ e)
 
 size-root : (p : Plan) (rotation : Quaternion) (velocity : Twist) (forces ws : List Float) → size (rootVisit p rotation velocity forces ws) ≡ length ws
 unfolding rootVisit floatingRoot keptBase
 size-root p rotation velocity forces ws =
-    let e = length-zeroTo ws (p .n * 95 + 48) (p .side) in
+    let e = length-zeroTo ws (resultsPlace (p .n)) (p .side) in
     either-way size (eqb (p .lead) 0) (length-putTwist _ _ _ ∙ e) (size-unless _ _ _ (length ws) e (simp length-putTwist e))
 
 size-third : (p : Plan) (parents kinds : List ℕ) (axes : List Float) (j : ℕ) (ws : List Float) → size (thirdVisit p parents kinds axes j ws) ≡ length ws
 unfolding thirdVisit solvedJoint keptJoint
 size-third p parents kinds axes j ws =
-    either-way size (isFixed (kindOf kinds j)) (length-putTwist _ _ _) (either-way size (finite _) (simp (length-set, length-putTwist)) refl)
+    either-way size (fixedBy (motionOf kinds axes j)) (length-putTwist _ _ _) (either-way size (finite _) (simp (length-set, length-putTwist)) refl)
 
 -- ---- outcomes
 

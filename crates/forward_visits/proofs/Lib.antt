@@ -1,1 +1,3 @@
+pub mod Actives
 pub mod Kept
+pub mod Places

@@ -1,8 +1,55 @@
--- The places in the workspace. Definitions only.
--- Joint j has 95 numbers at j * 95: frame 7, velocity 6 (7), bias acceleration 6 (13), inertia 36 (19), bias force 6 (55), U 6 (61), D (67), joint bias (68),
--- acceleration 6 (69), link load 6 (75). The root's stand at n * 95: inertia 36, bias force 6 (36), acceleration 6 (42); the results wait at n * 95 + 48.
+-- The places in the workspace (docs/LAYOUT.md). Definitions only.
 use Prim.Native.Nat.{ℕ, _+_, _*_, _≤_}
 use Rattle.calls.specs.declared.plan.Plan.{Plan}
+
+-- ---- joint j's 95 numbers
+
+abbrev pub framePlace : ℕ → ℕ
+framePlace j = j * 95
+
+abbrev pub velocityPlace : ℕ → ℕ
+velocityPlace j = j * 95 + 7
+
+-- the bias acceleration's
+abbrev pub biasPlace : ℕ → ℕ
+biasPlace j = j * 95 + 13
+
+-- the articulated inertia's, and its bias force's
+abbrev pub inertiaPlace : ℕ → ℕ
+inertiaPlace j = j * 95 + 19
+
+abbrev pub forcePlace : ℕ → ℕ
+forcePlace j = j * 95 + 55
+
+-- U, D and the joint bias
+abbrev pub termPlace : ℕ → ℕ
+termPlace j = j * 95 + 61
+
+abbrev pub accelerationPlace : ℕ → ℕ
+accelerationPlace j = j * 95 + 69
+
+-- its link's load
+abbrev pub loadPlace : ℕ → ℕ
+loadPlace j = j * 95 + 75
+
+-- ---- behind n joints, the root's
+
+abbrev pub rootInertiaPlace : ℕ → ℕ
+rootInertiaPlace n = n * 95
+
+abbrev pub rootForcePlace : ℕ → ℕ
+rootForcePlace n = n * 95 + 36
+
+abbrev pub rootAccelerationPlace : ℕ → ℕ
+rootAccelerationPlace n = n * 95 + 42
+
+-- the results wait here
+abbrev pub resultsPlace : ℕ → ℕ
+resultsPlace n = n * 95 + 48
+
+-- how many numbers n joints need
+abbrev pub roomOf : ℕ → ℕ
+roomOf n = n * 96 + 64
 
 -- ---- what the steps of the code promise each other
 
@@ -10,4 +57,4 @@ use Rattle.calls.specs.declared.plan.Plan.{Plan}
 pub record Room (p : Plan) (ws : ℕ) : Type 0 where
   pub few : p .n ≤ 32
   pub small : p .side ≤ p .n + 6
-  pub room : p .n * 96 + 64 ≤ ws
+  pub room : roomOf (p .n) ≤ ws

@@ -5,3 +5,4 @@ pub mod Second
 pub mod Root
 pub mod Third
 pub mod Kernel
+pub mod Places

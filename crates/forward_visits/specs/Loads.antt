@@ -1,13 +1,14 @@
 -- Loads: link numbers, and six wrench numbers for each (document 01, "Model"). Definitions only.
 use mathlib.Core.Bool.{cond}
 use mathlib.Core.List.{List}
-use Prim.Native.Nat.{ℕ, zero, suc, _+_, _*_}
+use Prim.Native.Nat.{ℕ, zero, suc, _*_}
 use lib.Dec.{eqb}
 use lib.ListN.{length, getD}
 use lib.Ieee.{Float}
 use Rattle.spatial.specs.Wrench.{zerosOf}
 use Rattle.spatial.specs.declared.wrench.Wrench.{Wrench}
 use Rattle.slots.specs.Slots.{wrenchAt, putWrench}
+use Rattle.forward_visits.specs.Layout.{loadPlace}
 
 -- of the first k loads
 unfoldable pub loadTo : List ℕ → List Float → ℕ → ℕ → Wrench
@@ -21,4 +22,4 @@ loadOf loaded loads link = loadTo loaded loads link (length loaded)
 -- the link loads of the first n joints
 unfoldable pub loadsTo : List ℕ → List Float → ℕ → List Float → List Float
 loadsTo loaded loads zero ws = ws
-loadsTo loaded loads (suc j) ws = putWrench (loadsTo loaded loads j ws) (j * 95 + 75) (loadOf loaded loads (suc j))
+loadsTo loaded loads (suc j) ws = putWrench (loadsTo loaded loads j ws) (loadPlace j) (loadOf loaded loads (suc j))

@@ -1,12 +1,13 @@
 // The joints rising, first pass.
 ghost use mathlib.Core.Path.{_≡_};
-ghost use Prim.Native.Nat.{_+_, _*_, _≤_, _<_};
+ghost use Prim.Native.Nat.{_+_, _-_, _≤_, _<_};
 ghost use lib.ListN.{length};
 ghost use Rattle.arm.specs.Model.{bundle};
 ghost use Rattle.arm.specs.Topology.{activesOf};
 ghost use Rattle.calls.specs.Plan.{Fit};
-ghost use Rattle.forward_visits.specs.Layout.{Room};
+ghost use Rattle.forward_visits.specs.Layout.{framePlace, Room};
 ghost use Rattle.forward_visits.specs.First.{parentTwist, putFirst, firstAt, firstVisit};
+use crate::layout;
 use arm::model;
 use arm::topology;
 use articulated::first;
@@ -16,27 +17,27 @@ use spatial::twist::Twist;
 
 // The twist of a parent link: the root's, or the one at an offset of the parent's joint.
 pub fn parent_twist(ws: &[f64], parent: usize, root: Twist, offset: usize) -> Twist
-    requires { ⌜ (parent ≤ 32) × (parent * 95 ≤ length (now ws)) × (offset + 6 ≤ 95) ⌝ }
-    ensures { λ r. ⌜ r ≡ parentTwist (now (ws .entry)) parent root offset ⌝ }
+    requires { ⌜ (parent ≤ 32) × (framePlace parent ≤ length (now ws)) × (offset + 6 ≤ framePlace 1) ⌝ }
+    ensures { λ r. ⌜ r ≡ parentTwist (now (ws .entry)) parent root (framePlace (parent - 1) + offset) ⌝ }
 {
     if parent == 0 {
         return root;
     }
-    slots::twist_at(ws, (parent - 1) * 95 + offset)
+    slots::twist_at(ws, (parent - 1) * layout::JOINT + offset)
 }
 
-fn put_first(ws: &mut [f64], at: usize, f: First)
-    requires { ⌜ at + 95 ≤ length (now ws) ⌝ }
-    ensures { λ _. ⌜ now (ws .exit) ≡ putFirst (now (ws .entry)) at f ⌝ }
+fn put_first(ws: &mut [f64], j: usize, f: First)
+    requires { ⌜ (j < 32) × (framePlace (j + 1) ≤ length (now ws)) ⌝ }
+    ensures { λ _. ⌜ now (ws .exit) ≡ putFirst (now (ws .entry)) j f ⌝ }
 {
     let frame = f.frame;
     let velocity = f.velocity;
     let bias = f.bias;
     let force = f.force;
-    slots::put_frame(ws, at, frame);
-    slots::put_twist(ws, at + 7, velocity);
-    slots::put_twist(ws, at + 13, bias);
-    slots::put_wrench(ws, at + 55, force);
+    slots::put_frame(ws, j * layout::JOINT, frame);
+    slots::put_twist(ws, j * layout::JOINT + layout::VELOCITY, velocity);
+    slots::put_twist(ws, j * layout::JOINT + layout::BIAS, bias);
+    slots::put_wrench(ws, j * layout::JOINT + layout::FORCE, force);
 }
 
 // What joint j works out, of a link with this inertia.
@@ -62,10 +63,10 @@ fn first_at<'a>(
     let parent = joint.parent;
     let origin = joint.origin;
     let motion = joint.motion;
-    let value = topology::value_at(kinds, numbers, q, n, j);
-    let speed = topology::value_at(kinds, numbers, qd, n, j);
-    let carried = parent_twist(ws, parent, velocity, 7);
-    let load = slots::wrench_at(ws, j * 95 + 75);
+    let value = topology::value_of(motion, kinds, numbers, q, n, j);
+    let speed = topology::value_of(motion, kinds, numbers, qd, n, j);
+    let carried = parent_twist(ws, parent, velocity, layout::VELOCITY);
+    let load = slots::wrench_at(ws, j * layout::JOINT + layout::LOAD);
     first::first_pass(origin, motion, value, speed, carried, inertia, load)
 }
 
@@ -103,6 +104,6 @@ pub fn first_visit<'a>(
         ws,
         j,
     );
-    put_first(ws, j * 95, f);
-    slots::put_mat6(ws, j * 95 + 19, &inertia);
+    put_first(ws, j, f);
+    slots::put_mat6(ws, j * layout::JOINT + layout::INERTIA, &inertia);
 }

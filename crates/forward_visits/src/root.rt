@@ -1,9 +1,10 @@
 // The root: what is set before the passes, and its own visit between the second and the third.
 ghost use mathlib.Core.Path.{_≡_};
-ghost use Prim.Native.Nat.{_+_, _*_, _≤_};
+ghost use Prim.Native.Nat.{_*_, _≤_};
 ghost use lib.ListN.{length};
-ghost use Rattle.forward_visits.specs.Layout.{Room};
+ghost use Rattle.forward_visits.specs.Layout.{roomOf, Room};
 ghost use Rattle.forward_visits.specs.Root.{putRoot, begunOf, baseAt, floatingRoot, rootVisit};
+use crate::layout;
 use crate::loads;
 use arm::model;
 use articulated::first;
@@ -17,14 +18,14 @@ use spatial::wrench::Wrench;
 
 // The root's own inertia and bias force.
 fn put_root(n: usize, velocity: Twist, links: &[f64; 330], load: Wrench, ws: &mut [f64])
-    requires { ⌜ (n ≤ 32) × (n * 96 + 64 ≤ length (now ws)) ⌝ }
+    requires { ⌜ (n ≤ 32) × (roomOf n ≤ length (now ws)) ⌝ }
     ensures { λ _. ⌜ now (ws .exit) ≡ putRoot n velocity (now (links .entry)) load (now (ws .entry)) ⌝ }
 {
     let link = model::link_at(links, 0);
     let inertia = first::body_inertia(link);
     let force = first::bias_force(&inertia, velocity, load);
-    slots::put_mat6(ws, n * 95, &inertia);
-    slots::put_wrench(ws, n * 95 + 36, force);
+    slots::put_mat6(ws, n * layout::JOINT, &inertia);
+    slots::put_wrench(ws, n * layout::JOINT + layout::ROOT_FORCE, force);
 }
 
 // What the Rust sets before its loops comes with the first visit.
@@ -37,7 +38,7 @@ pub fn begin<'a>(
     ws: &mut [f64],
     at: usize,
 )
-    requires { ⌜ (length (now loads) ≡ 6 * length (now loaded)) × (n ≤ 32) × (n * 96 + 64 ≤ length (now ws)) ⌝ }
+    requires { ⌜ (length (now loads) ≡ 6 * length (now loaded)) × (n ≤ 32) × (roomOf n ≤ length (now ws)) ⌝ }
     ensures { λ _. ⌜ now (ws .exit) ≡ begunOf n velocity (now (links .entry)) (now (loaded .entry)) (now (loads .entry)) at (now (ws .entry)) ⌝ }
 {
     if at != 0 {
@@ -56,11 +57,11 @@ fn base_at<'a>(
     forces: &'a [f64],
     ws: &'a [f64],
 ) -> Base
-    requires { ⌜ (n ≤ 32) × (n * 96 + 64 ≤ length (now ws)) × (6 ≤ length (now forces)) ⌝ }
+    requires { ⌜ (n ≤ 32) × (roomOf n ≤ length (now ws)) × (6 ≤ length (now forces)) ⌝ }
     ensures { λ r. ⌜ r ≡ baseAt n rotation velocity (now (forces .entry)) (now (ws .entry)) ⌝ }
 {
-    let inertia = slots::mat6_at(ws, n * 95);
-    let bias = slots::wrench_at(ws, n * 95 + 36);
+    let inertia = slots::mat6_at(ws, n * layout::JOINT);
+    let bias = slots::wrench_at(ws, n * layout::JOINT + layout::ROOT_FORCE);
     let force = slots::wrench_at(forces, 0);
     root::solve_base(rotation, velocity, &inertia, bias, force)
 }
@@ -73,7 +74,7 @@ fn floating_root<'a>(
     forces: &'a [f64],
     ws: &mut [f64],
 ) -> Verdict
-    requires { ⌜ (n ≤ 32) × (n * 96 + 64 ≤ length (now ws)) × (6 ≤ length (now forces)) ⌝ }
+    requires { ⌜ (n ≤ 32) × (roomOf n ≤ length (now ws)) × (6 ≤ length (now forces)) ⌝ }
     ensures { λ r. ⌜ (r, now (ws .exit)) ≡ floatingRoot n rotation velocity (now (forces .entry)) (now (ws .entry)) ⌝ }
 {
     let b = base_at(n, rotation, velocity, forces, ws);
@@ -83,8 +84,12 @@ fn floating_root<'a>(
     let Verdict::Fine = v else {
         return v;
     };
-    slots::put_twist(ws, n * 95 + 48, world);
-    slots::put_twist(ws, n * 95 + 42, acceleration);
+    slots::put_twist(ws, n * layout::JOINT + layout::RESULTS, world);
+    slots::put_twist(
+        ws,
+        n * layout::JOINT + layout::ROOT_ACCELERATION,
+        acceleration,
+    );
     Verdict::Fine
 }
 
@@ -101,9 +106,14 @@ pub fn root_visit(
     let n = p.n;
     let lead = p.lead;
     let side = p.side;
-    slots::zero_part(ws, n * 95 + 48, side);
+    slots::zero_part(ws, n * layout::JOINT + layout::RESULTS, side);
     if lead == 0 {
-        slots::put_twist(ws, n * 95 + 42, root::fixed_acceleration(rotation));
+        let acceleration = root::fixed_acceleration(rotation);
+        slots::put_twist(
+            ws,
+            n * layout::JOINT + layout::ROOT_ACCELERATION,
+            acceleration,
+        );
         return Verdict::Fine;
     }
     floating_root(n, rotation, velocity, forces, ws)

@@ -2,7 +2,7 @@
 use mathlib.Core.Bool.{Bool, true, false}
 use mathlib.Core.List.{List}
 use mathlib.Core.Path.{_≡_, refl, sym, _∙_}
-use Prim.Native.Nat.{ℕ, _+_, _*_, _/_, _%_, _≤_, _<_}
+use Prim.Native.Nat.{ℕ, _*_, _/_, _%_, _≤_, _<_}
 use native.Mathlib.Omega.{arith}
 use borrow.Author.Tests.{lt-ltb, le-ltb, eq-eqb, ne-eqb, eqb-true, eqb-false}
 use lib.Dec.{eqb}
@@ -18,6 +18,7 @@ use Rattle.arm.specs.Model.{wildOf}
 use Rattle.arm.specs.Topology.{activesOf}
 use Rattle.calls.specs.Checks.{valuesVerdict}
 use Rattle.calls.specs.Plan.{planBy}
+use Rattle.forward_visits.specs.Layout.{roomOf}
 use Rattle.forward_dynamics.specs.Checks.{restVerdict, inputsVerdict}
 use Rattle.calls.specs.declared.plan.Plan.{Plan}
 
@@ -41,11 +42,11 @@ module _ (floating : Bool) (rotation : Quaternion) (base : Twist) (n : ℕ) (par
   refuses-9 h = rw (← e9, h)
 
   module _ (tame : wild ≡ false) where
-    pub refuses-10 : ws < n * 96 + 64 → Refused 10 Nothing ≡ inputs
+    pub refuses-10 : ws < roomOf n → Refused 10 Nothing ≡ inputs
     unfolding inputsVerdict plainOf orElse
     refuses-10 h = rw (← e9, tame, lt-ltb _ _ h)
 
-    module _ (v : Verdict) (room : n * 96 + 64 ≤ ws) (ev : v ≡ valuesVerdict 11 12 kinds n q) where
+    module _ (v : Verdict) (room : roomOf n ≤ ws) (ev : v ≡ valuesVerdict 11 12 kinds n q) where
       pub refuses-values : (number : ℕ) (i : Place) → v ≡ Refused number i → v ≡ inputs
       unfolding inputsVerdict plainOf orElse
       refuses-values number i h = rw (← e9, tame, le-ltb _ _ room, ← ev, h)

@@ -2,7 +2,7 @@
 use mathlib.Core.Bool.{Bool, false}
 use mathlib.Core.List.{List}
 use mathlib.Core.Path.{_≡_, ap, _∙_}
-use Prim.Native.Nat.{ℕ, _+_, _*_}
+use Prim.Native.Nat.{ℕ}
 use lib.ListN.{length}
 use lib.Ieee.{Float}
 use Rattle.numbers.specs.declared.quaternion.Quaternion.{Quaternion}
@@ -22,13 +22,14 @@ use Rattle.calls.specs.declared.position.Answer.{Answer}
 use Rattle.articulated.specs.Root.{rootVelocity}
 use Rattle.calls.specs.Plan.{planBy}
 use Rattle.forward_dynamics.specs.Checks.{inputsVerdict}
+use Rattle.forward_visits.specs.Layout.{resultsPlace}
 use Rattle.forward_visits.specs.Kernel.{visitOf}
-use Rattle.forward_dynamics.specs.ForwardDynamics.{floats, rotationOf, baseOf, forwardDynamics}
+use Rattle.forward_dynamics.specs.ForwardDynamics.{floats, rotationOf, baseVelocity, forwardDynamics}
 use Rattle.forward_dynamics.specs.declared.forward_dynamics.Mode.{Mode}
 use Rattle.calls.specs.declared.plan.Plan.{Plan}
 
 module _ (mode : Mode) (m : Model) (q qd forces : List Float) (loaded : List ℕ) (loads ws out : List Float) (floating : Bool) (rotation : Quaternion) (base : Twist)
-    (ef : floating ≡ floats mode) (er : rotation ≡ rotationOf mode) (eb : base ≡ baseOf mode) where
+    (ef : floating ≡ floats mode) (er : rotation ≡ rotationOf mode) (eb : base ≡ baseVelocity mode) where
   abbrev inputs : Verdict
   inputs = inputsVerdict floating rotation base (m .n) (m .parents) (m .kinds) q qd forces loaded loads (length ws) (length out)
 
@@ -68,14 +69,14 @@ module _ (mode : Mode) (m : Model) (q qd forces : List Float) (loaded : List ℕ
     size-is = ap (λ (k : Plan). k .n) epl
 
     -- the visits of the code are the calculation's
-    as-visits : (budget : ℕ) (p₀ : Progress) (w : List Float) → iterate (stepBy (visitOf plan rotation velocity lent q qd forces loaded loads) (plan .n * 95 + 48)) budget (p₀, w, out)
-        ≡ iterate (stepBy (visitOf plan rotation velocity m q qd forces loaded loads) (m .n * 95 + 48)) budget (p₀, w, out)
+    as-visits : (budget : ℕ) (p₀ : Progress) (w : List Float) → iterate (stepBy (visitOf plan rotation velocity lent q qd forces loaded loads) (resultsPlace (plan .n))) budget (p₀, w, out)
+        ≡ iterate (stepBy (visitOf plan rotation velocity m q qd forces loaded loads) (resultsPlace (m .n))) budget (p₀, w, out)
     as-visits budget p₀ w =
-        ap (λ (k : Model). iterate (stepBy (visitOf plan rotation velocity k q qd forces loaded loads) (plan .n * 95 + 48)) budget (p₀, w, out)) lent-is
-        ∙ ap (λ (k : ℕ). iterate (stepBy (visitOf plan rotation velocity m q qd forces loaded loads) (k * 95 + 48)) budget (p₀, w, out)) size-is
+        ap (λ (k : Model). iterate (stepBy (visitOf plan rotation velocity k q qd forces loaded loads) (resultsPlace (plan .n))) budget (p₀, w, out)) lent-is
+        ∙ ap (λ (k : ℕ). iterate (stepBy (visitOf plan rotation velocity m q qd forces loaded loads) (resultsPlace k)) budget (p₀, w, out)) size-is
 
     pub portion-fine : (budget : ℕ) (v : Verdict) → v ≡ orElse inputs (positionVerdict false floating (m .n) (activesOf (m .kinds) (m .n)) p) → v ≡ Fine
-        → (s, ws′, out′) ≡ iterate (stepBy (visitOf plan rotation velocity lent q qd forces loaded loads) (plan .n * 95 + 48)) budget (opening p, ws, out)
+        → (s, ws′, out′) ≡ iterate (stepBy (visitOf plan rotation velocity lent q qd forces loaded loads) (resultsPlace (plan .n))) budget (opening p, ws, out)
         → (t, ws′, out′) ≡ portionOf (forwardDynamics mode m q qd forces loaded loads) budget p ws out
     unfolding portionOf forwardDynamics
     portion-fine budget v ev h es =
@@ -83,7 +84,7 @@ module _ (mode : Mode) (m : Model) (q qd forces : List Float) (loaded : List ℕ
         rw (← ef, ← er, ← eb, ← ev, h, ← ea, ← epl, ← el, ← run, et)
 
     pub whole-fine : (all : ℕ) (v : Verdict) (ws₁ : List Float) → v ≡ inputs → v ≡ Fine → p ≡ freshAt false floating (m .n) a → all ≡ visitsOf false (m .n) a → ws₁ ≡ cleared ws
-        → (s, ws′, out′) ≡ iterate (stepBy (visitOf plan rotation velocity lent q qd forces loaded loads) (plan .n * 95 + 48)) all (opening p, ws₁, out)
+        → (s, ws′, out′) ≡ iterate (stepBy (visitOf plan rotation velocity lent q qd forces loaded loads) (resultsPlace (plan .n))) all (opening p, ws₁, out)
         → (t, ws′, out′) ≡ wholeOf (forwardDynamics mode m q qd forces loaded loads) ws out
     unfolding wholeOf forwardDynamics
     whole-fine all v ws₁ ev h ep en ew es =

@@ -23,7 +23,7 @@ use Rattle.calls.specs.declared.position.Position.{Position}
 use Rattle.calls.specs.declared.position.Progress.{Progress}
 use Rattle.calls.proofs.Passed.{tame, not-short, as-wanted, counted, still-open}
 use Rattle.calls.specs.Plan.{planBy, planOf, Fit}
-use Rattle.forward_visits.specs.Layout.{Room}
+use Rattle.forward_visits.specs.Layout.{roomOf, Room}
 use Rattle.forward_dynamics.specs.Checks.{motionVerdict, forcesVerdict, loadsVerdict, restVerdict, inputsVerdict}
 use Rattle.forward_visits.specs.Root.{begunOf}
 use Rattle.forward_visits.specs.Kernel.{outcomeOf, passVisit, visitOf}
@@ -45,7 +45,7 @@ module _ (floating : Bool) (n : ℕ) (parents kinds numbers : List ℕ) (good : 
   unfolding planBy
   fits = record { good = good; counted = e; led = lead-small floating; whole = lead-whole floating; sided = refl }
 
-  roomy : (ws : ℕ) → n * 96 + 64 ≤ ws → Room (planOf floating n kinds) ws
+  roomy : (ws : ℕ) → roomOf n ≤ ws → Room (planOf floating n kinds) ws
   unfolding planBy
   roomy ws h = record { few = good .tree .few; small = omega (arith, lead-small floating, actives-le kinds n); room = h }
 
@@ -67,7 +67,7 @@ module _ (floating : Bool) (rotation : Quaternion) (base : Twist) (n : ℕ) (par
       let side = planOf floating n kinds .side in
       record {
         fit = fits floating n parents kinds numbers passed-good e;
-        room = roomy floating n parents kinds numbers passed-good e ws (not-short 10 ws (n * 96 + 64) (a .0));
+        room = roomy floating n parents kinds numbers passed-good e ws (not-short 10 ws (roomOf n) (a .0));
         values = counted 11 12 kinds n q (b .0);
         speeds = counted 14 15 kinds n qd (both-fine _ _ (d .0) .1);
         given = as-wanted 16 (length forces) side (g .0);

@@ -1,6 +1,6 @@
 use mathlib.Core.Path.{sym, _∙_}
-use Prim.Native.Nat.{_+_, _*_}
 use lib.ListN.{length}
+use Rattle.forward_visits.specs.Layout.{resultsPlace}
 use Rattle.forward_visits.specs.Kernel.{visitOf}
 use borrow.Author.Needs.{needs}
 use Rattle.calls.specs.Position.{opening}
@@ -61,7 +61,7 @@ run-requires : tie.Need-run-requires
 run-requires c κs = let b11 = c .before .before .before .before .before .before .before .before .before .before .before in let b14 = b11 .before .before .before in let b16 = b14 .before .before in let b17 = b16 .before in let b21 = b17 .before .before .before .before in let b23 = b21 .before .before in let b28 = b23 .before .before .before .before .before in let b31 = b28 .before .before .before in let b32 = b31 .before in let b33 = b32 .before in let b41 = b33 .before .before .before .before .before .before .before .before in (rw (b11 .clear .kept .0) (plan-ready (b33 .floats .result) (b32 .rotation .result) (b31 .base .result) (b41 .args .t1 .n) (b41 .args .t1 .parents) (b41 .args .t1 .kinds) (b28 .active-numbers .result) (b41 .args .q .now) (b41 .args .qd .now) (b41 .args .forces .now) (b41 .args .loaded .now) (b41 .args .loads .now) (length (b41 .args .ws .now)) (length (b41 .args .out .now)) (sym (b23 .judged .ensures) ∙ b21 .enum-told .given .1) _ (b17 .number-at .ensures) _ (b16 .planned .ensures .0) (b28 .active-numbers .ensures)), within-fresh _ _ _ _ _ (b16 .planned .ensures .0) (b14 .fresh .ensures))
 
 answer-requires : tie.Need-answer-requires
-answer-requires c κs = let b4 = c .before .before .before .before in let b16 = b4 .before .before .before .before .before .before .before .before .before .before .before .before in let b18 = b16 .before .before in let b19 = b18 .before in let b20 = b19 .before in let b21 = b20 .before in let b37 = b21 .before .before .before .before .before .before .before .before .before .before .before .before .before .before .before .before in let b46 = b37 .before .before .before .before .before .before .before .before .before in rw (← b4 .run .ensures) at (run-forth (visitOf (b21 .planned .result) (b37 .rotation .result) (b20 .root-velocity .result) (bundle (b21 .planned .result .n) (b46 .args .t1 .parents) (b46 .args .t1 .kinds) (b46 .args .t1 .origins) (b46 .args .t1 .axes) (b46 .args .t1 .links)) (b46 .args .q .now) (b46 .args .qd .now) (b46 .args .forces .now) (b46 .args .loaded .now) (b46 .args .loads .now)) (b21 .planned .result .n * 95 + 48) (b18 .visits .result) (opening (b19 .fresh .result), b16 .clear .last .0, b46 .args .out .now))
+answer-requires c κs = let b4 = c .before .before .before .before in let b16 = b4 .before .before .before .before .before .before .before .before .before .before .before .before in let b18 = b16 .before .before in let b19 = b18 .before in let b20 = b19 .before in let b21 = b20 .before in let b37 = b21 .before .before .before .before .before .before .before .before .before .before .before .before .before .before .before .before in let b46 = b37 .before .before .before .before .before .before .before .before .before in rw (← b4 .run .ensures) at (run-forth (visitOf (b21 .planned .result) (b37 .rotation .result) (b20 .root-velocity .result) (bundle (b21 .planned .result .n) (b46 .args .t1 .parents) (b46 .args .t1 .kinds) (b46 .args .t1 .origins) (b46 .args .t1 .axes) (b46 .args .t1 .links)) (b46 .args .q .now) (b46 .args .qd .now) (b46 .args .forces .now) (b46 .args .loaded .now) (b46 .args .loads .now)) (resultsPlace (b21 .planned .result .n)) (b18 .visits .result) (opening (b19 .fresh .result), b16 .clear .last .0, b46 .args .out .now))
 
 returns : tie.Need-returns
 returns c = let b1 = c .before in let b3 = b1 .before .before in let b5 = b3 .before .before in let b13 = b5 .before .before .before .before .before .before .before .before in let b14 = b13 .before in let b15 = b14 .before in let b23 = b15 .before .before .before .before .before .before .before .before in whole-refused (b23 .args .mode) (b23 .args .t1) (b23 .args .q .now) (b23 .args .qd .now) (b23 .args .forces .now) (b23 .args .loaded .now) (b23 .args .loads .now) (b23 .args .ws .now) (b23 .args .out .now) _ _ _ (b15 .floats .ensures) (b14 .rotation .ensures) (b13 .base .ensures) _ _ _ _ _ (b5 .judged .ensures) (b3 .v .given .1) (b1 .shut .ensures) (c .refused .ensures)

@@ -1,6 +1,6 @@
 use mathlib.Core.Path.{sym, _∙_}
-use Prim.Native.Nat.{_+_, _*_}
 use lib.ListN.{length}
+use Rattle.forward_visits.specs.Layout.{resultsPlace}
 use Rattle.forward_visits.specs.Kernel.{visitOf}
 use borrow.Author.Needs.{needs}
 use Rattle.calls.specs.Position.{opening}
@@ -50,7 +50,7 @@ run-requires : tie.Need-run-requires
 run-requires c κs = let b10 = c .before .before .before .before .before .before .before .before .before .before in let b11 = b10 .before in let b15 = b11 .before .before .before .before in let b17 = b15 .before .before in let b22 = b17 .before .before .before .before .before in let b25 = b22 .before .before .before in let b26 = b25 .before in let b27 = b26 .before in let b35 = b27 .before .before .before .before .before .before .before .before in let v = both-fine _ _ (sym (b17 .judged-at .ensures) ∙ b15 .enum-told .given .1) in (plan-ready (b27 .floats .result) (b26 .rotation .result) (b25 .base .result) (b35 .args .t2 .n) (b35 .args .t2 .parents) (b35 .args .t2 .kinds) (b22 .active-numbers .result) (b35 .args .q .now) (b35 .args .qd .now) (b35 .args .forces .now) (b35 .args .loaded .now) (b35 .args .loads .now) (length (b35 .args .ws .now)) (length (b35 .args .out .now)) (v .0) _ (b11 .number-at .ensures) _ (b10 .planned .ensures .0) (b22 .active-numbers .ensures), within-judged _ _ _ _ _ (b10 .planned .ensures .0) (rw (← b11 .number-at .ensures) at (v .1)))
 
 answer-requires : tie.Need-answer-requires
-answer-requires c κs = let b4 = c .before .before .before .before in let b14 = b4 .before .before .before .before .before .before .before .before .before .before in let b15 = b14 .before in let b31 = b15 .before .before .before .before .before .before .before .before .before .before .before .before .before .before .before .before in let b40 = b31 .before .before .before .before .before .before .before .before .before in rw (← b4 .run .ensures) at (run-forth (visitOf (b15 .planned .result) (b31 .rotation .result) (b14 .root-velocity .result) (bundle (b15 .planned .result .n) (b40 .args .t2 .parents) (b40 .args .t2 .kinds) (b40 .args .t2 .origins) (b40 .args .t2 .axes) (b40 .args .t2 .links)) (b40 .args .q .now) (b40 .args .qd .now) (b40 .args .forces .now) (b40 .args .loaded .now) (b40 .args .loads .now)) (b15 .planned .result .n * 95 + 48) (b40 .args .budget) (opening (b40 .args .position), b40 .args .ws .now, b40 .args .out .now))
+answer-requires c κs = let b4 = c .before .before .before .before in let b14 = b4 .before .before .before .before .before .before .before .before .before .before in let b15 = b14 .before in let b31 = b15 .before .before .before .before .before .before .before .before .before .before .before .before .before .before .before .before in let b40 = b31 .before .before .before .before .before .before .before .before .before in rw (← b4 .run .ensures) at (run-forth (visitOf (b15 .planned .result) (b31 .rotation .result) (b14 .root-velocity .result) (bundle (b15 .planned .result .n) (b40 .args .t2 .parents) (b40 .args .t2 .kinds) (b40 .args .t2 .origins) (b40 .args .t2 .axes) (b40 .args .t2 .links)) (b40 .args .q .now) (b40 .args .qd .now) (b40 .args .forces .now) (b40 .args .loaded .now) (b40 .args .loads .now)) (resultsPlace (b15 .planned .result .n)) (b40 .args .budget) (opening (b40 .args .position), b40 .args .ws .now, b40 .args .out .now))
 
 returns : tie.Need-returns
 returns c = let b2 = c .before .before in let b4 = b2 .before .before in let b12 = b4 .before .before .before .before .before .before .before .before in let b13 = b12 .before in let b14 = b13 .before in let b22 = b14 .before .before .before .before .before .before .before .before in portion-refused (b22 .args .mode) (b22 .args .t2) (b22 .args .q .now) (b22 .args .qd .now) (b22 .args .forces .now) (b22 .args .loaded .now) (b22 .args .loads .now) (b22 .args .ws .now) (b22 .args .out .now) _ _ _ (b14 .floats .ensures) (b13 .rotation .ensures) (b12 .base .ensures) (b22 .args .budget) (b22 .args .position) _ _ _ _ (b4 .judged-at .ensures) (b2 .v .given .1) (c .refused .ensures)

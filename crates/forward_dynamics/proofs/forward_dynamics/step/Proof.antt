@@ -1,9 +1,9 @@
-use Prim.Native.Nat.{_+_, _*_}
 use native.Mathlib.Omega.{arith}
 use borrow.Author.Needs.{needs}
 use Rattle.calls.specs.Position.{opening}
 use Rattle.calls.proofs.Steps.{landed-is}
 use Rattle.arm.specs.Model.{bundle}
+use Rattle.forward_visits.specs.Layout.{resultsPlace}
 use Rattle.forward_dynamics.proofs.forward_dynamics.Ready.{within-after}
 use Rattle.forward_dynamics.proofs.forward_dynamics.step.Statement.{statement}
 use Rattle.forward_dynamics.proofs.forward_dynamics.step.Tie as tie
@@ -30,7 +30,7 @@ same-length-2 : tie.Need-same-length-2
 same-length-2 c = search needs
 
 returns : tie.Need-returns
-returns c = let b5 = c .before .before .before .before .before in let b10 = b5 .before .before .before .before .before in let b19 = b10 .before .before .before .before .before .before .before .before .before in (landed-is (b19 .args .p .n * 95 + 48) (opening (b19 .args .s), b19 .args .ws .now, b19 .args .out .now) (b10 .visit .ensures) (b5 .close .ensures) (c .advanced .ensures), within-after (b19 .args .p) (b19 .args .rotation) (b19 .args .velocity) (bundle (b19 .args .p .n) (b19 .args .parents .now) (b19 .args .kinds .now) (b19 .args .origins .now) (b19 .args .axes .now) (b19 .args .links .now)) (b19 .args .q .now) (b19 .args .qd .now) (b19 .args .forces .now) (b19 .args .loaded .now) (b19 .args .loads .now) (b19 .args .s) (b19 .args .ws .now) (omega (arith, b19 .pre .1 (b19 .pre .2))) (b10 .visit .ensures) (c .advanced .ensures))
+returns c = let b5 = c .before .before .before .before .before in let b10 = b5 .before .before .before .before .before in let b19 = b10 .before .before .before .before .before .before .before .before .before in (landed-is (resultsPlace (b19 .args .p .n)) (opening (b19 .args .s), b19 .args .ws .now, b19 .args .out .now) (b10 .visit .ensures) (b5 .close .ensures) (c .advanced .ensures), within-after (b19 .args .p) (b19 .args .rotation) (b19 .args .velocity) (bundle (b19 .args .p .n) (b19 .args .parents .now) (b19 .args .kinds .now) (b19 .args .origins .now) (b19 .args .axes .now) (b19 .args .links .now)) (b19 .args .q .now) (b19 .args .qd .now) (b19 .args .forces .now) (b19 .args .loaded .now) (b19 .args .loads .now) (b19 .args .s) (b19 .args .ws .now) (omega (arith, b19 .pre .1 (b19 .pre .2))) (b10 .visit .ensures) (c .advanced .ensures))
 
 pub step-spec : {M : Type 1} → statement M
 step-spec =

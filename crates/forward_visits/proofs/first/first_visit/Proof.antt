@@ -16,11 +16,8 @@ body-inertia-requires c κs = search needs
 first-at-requires : tie.Need-first-at-requires
 first-at-requires c κs = search needs
 
-mul-put-first : tie.Need-mul-put-first
-mul-put-first c = let b9 = c .before .before .before .before .before .before .before .before .before in omega (arith, b9 .pre .2, b9 .pre .1 .few)
-
 put-first-requires : tie.Need-put-first-requires
-put-first-requires c κs = let b9 = c .before .before .before .before .before .before .before .before .before in omega (arith, b9 .pre .2, b9 .pre .1 .room)
+put-first-requires c κs = let b9 = c .before .before .before .before .before .before .before .before .before in (omega (arith, b9 .pre .2, b9 .pre .1 .few), omega (arith, b9 .pre .2, b9 .pre .1 .room))
 
 mul-put-mat6 : tie.Need-mul-put-mat6
 mul-put-mat6 c = let b13 = c .before .before .before .before .before .before .before .before .before .before .before .before .before in omega (arith, b13 .pre .2, b13 .pre .1 .few)
@@ -46,7 +43,6 @@ first-visit-spec =
     link-at-requires
     body-inertia-requires
     first-at-requires
-    mul-put-first
     put-first-requires
     mul-put-mat6
     add-put-mat6

@@ -14,14 +14,14 @@ add-zero-part c = search needs
 zero-part-requires : tie.Need-zero-part-requires
 zero-part-requires c κs = search needs
 
+fixed-acceleration-requires : tie.Need-fixed-acceleration-requires
+fixed-acceleration-requires c κs = search needs
+
 mul-put-twist : tie.Need-mul-put-twist
 mul-put-twist c = search needs
 
 add-put-twist : tie.Need-add-put-twist
 add-put-twist c = search needs
-
-fixed-acceleration-requires : tie.Need-fixed-acceleration-requires
-fixed-acceleration-requires c κs = search needs
 
 put-twist-requires : tie.Need-put-twist-requires
 put-twist-requires c κs = search needs
@@ -31,7 +31,7 @@ same-length c = search needs
 
 returns : tie.Need-returns
 unfolding rootVisit
-returns c = let b2 = c .before .before in let b3 = b2 .before in let b5 = b3 .before .before in let b8 = b5 .before .before .before in simp (eq-eqb _ _ (b5 .if1 .taken)) (rw (b2 .put-twist .ensures, b3 .fixed-acceleration .ensures, b8 .zero-part .ensures))
+returns c = let b2 = c .before .before in let b4 = b2 .before .before in let b5 = b4 .before in let b8 = b5 .before .before .before in simp (eq-eqb _ _ (b5 .if1 .taken)) (rw (b2 .put-twist .ensures, b4 .fixed-acceleration .ensures, b8 .zero-part .ensures))
 
 floating-root-requires : tie.Need-floating-root-requires
 floating-root-requires c κs = let b1 = c .before in let b4 = b1 .before .before .before in let b8 = b4 .before .before .before .before in (b8 .pre .0 .few, omega (arith, b8 .pre .0 .room, b4 .zero-part .kept .0), omega (arith, b8 .pre .1, b8 .pre .2 (b1 .if1 .left)))
@@ -50,9 +50,9 @@ root-visit-spec =
     mul-zero-part
     add-zero-part
     zero-part-requires
+    fixed-acceleration-requires
     mul-put-twist
     add-put-twist
-    fixed-acceleration-requires
     put-twist-requires
     same-length
     returns

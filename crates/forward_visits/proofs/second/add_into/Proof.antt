@@ -1,47 +1,61 @@
-use native.Mathlib.Omega.{arith}
-use Rattle.forward_visits.specs.Second.{addInto}
+use mathlib.Core.Path.{ap}
+use Rattle.forward_visits.specs.Second.{fixedBy, addInto}
 use borrow.Author.Needs.{needs}
 use Rattle.forward_visits.proofs.second.add_into.Statement.{statement}
 use Rattle.forward_visits.proofs.second.add_into.Tie as tie
 
-mul-frame-at : tie.Need-mul-frame-at
-mul-frame-at c = search needs
+enum-told : tie.Need-enum-told
+enum-told c = search needs
 
-frame-at-requires : tie.Need-frame-at-requires
-frame-at-requires c κs = search needs
+add-into-requires : tie.Need-add-into-requires
+add-into-requires c κs = search needs
 
-reduced-at-requires : tie.Need-reduced-at-requires
-reduced-at-requires c κs = search needs
+enum-told-2 : tie.Need-enum-told-2
+enum-told-2 c = search needs
 
-force-at-requires : tie.Need-force-at-requires
-force-at-requires c κs = search needs
+add-into-requires-2 : tie.Need-add-into-requires-2
+add-into-requires-2 c κs = search needs
 
-transform-inertia-to-parent-requires : tie.Need-transform-inertia-to-parent-requires
-transform-inertia-to-parent-requires c κs = search needs
+enum-told-3 : tie.Need-enum-told-3
+enum-told-3 c = search needs
 
-wrench-to-parent-requires : tie.Need-wrench-to-parent-requires
-wrench-to-parent-requires c κs = search needs
-
-add-body-requires : tie.Need-add-body-requires
-add-body-requires c κs = let b13 = c .before .before .before .before .before .before .before .before .before .before .before .before .before in omega (arith, b13 .pre .2)
+add-into-requires-3 : tie.Need-add-into-requires-3
+add-into-requires-3 c κs = search needs
 
 same-length : tie.Need-same-length
 same-length c = search needs
 
 returns : tie.Need-returns
 unfolding addInto
-returns c = let b2 = c .before .before in let b5 = b2 .before .before .before in let b6 = b5 .before in let b8 = b6 .before .before in let b11 = b8 .before .before .before in let b13 = b11 .before .before in rw (b2 .add-body .ensures, b5 .wrench-to-parent .ensures, b6 .transform-inertia-to-parent .ensures, b8 .force-at .ensures, b11 .reduced-at .ensures, b13 .frame-at .ensures)
+returns c = let b2 = c .before .before in let b4 = b2 .before .before in rw (ap fixedBy (b4 .enum-told .given .1)) (b2 .add-into .ensures)
+
+same-length-2 : tie.Need-same-length-2
+same-length-2 c = search needs
+
+returns-2 : tie.Need-returns-2
+unfolding addInto
+returns-2 c = let b2 = c .before .before in let b4 = b2 .before .before in rw (ap fixedBy (b4 .enum-told2 .given .1)) (b2 .add-into2 .ensures)
+
+same-length-3 : tie.Need-same-length-3
+same-length-3 c = search needs
+
+returns-3 : tie.Need-returns-3
+unfolding addInto
+returns-3 c = let b2 = c .before .before in let b4 = b2 .before .before in rw (ap fixedBy (b4 .enum-told3 .given .1)) (b2 .add-into3 .ensures)
 
 pub add-into-spec : {M : Type 1} → statement M
 add-into-spec =
     tie.close
     (tie.spec
-    mul-frame-at
-    frame-at-requires
-    reduced-at-requires
-    force-at-requires
-    transform-inertia-to-parent-requires
-    wrench-to-parent-requires
-    add-body-requires
+    enum-told
+    add-into-requires
+    enum-told-2
+    add-into-requires-2
+    enum-told-3
+    add-into-requires-3
     same-length
-    returns)
+    returns
+    same-length-2
+    returns-2
+    same-length-3
+    returns-3)

@@ -1,13 +1,10 @@
-use Rattle.forward_visits.specs.Second.{newTerm, reducedAt}
+use Rattle.forward_visits.specs.Second.{newTerm}
 use borrow.Author.Needs.{needs}
 use Rattle.forward_visits.proofs.second.new_term.Statement.{statement}
 use Rattle.forward_visits.proofs.second.new_term.Tie as tie
 
-motion-at-requires : tie.Need-motion-at-requires
-motion-at-requires c κs = search needs
-
-reduced-at-requires : tie.Need-reduced-at-requires
-reduced-at-requires c κs = search needs
+inertia-at-requires : tie.Need-inertia-at-requires
+inertia-at-requires c κs = search needs
 
 mul-wrench-at : tie.Need-mul-wrench-at
 mul-wrench-at c = search needs
@@ -25,15 +22,14 @@ joint-term-requires : tie.Need-joint-term-requires
 joint-term-requires c κs = search needs
 
 returns : tie.Need-returns
-unfolding newTerm reducedAt
-returns c = let b2 = c .before .before in let b3 = b2 .before in let b4 = b3 .before in let b5 = b4 .before in rw (c .joint-term .ensures, b2 .number-at .ensures, b3 .wrench-at .ensures, b4 .reduced-at .ensures, b5 .motion-at .ensures)
+unfolding newTerm
+returns c = let b2 = c .before .before in let b3 = b2 .before in let b4 = b3 .before in rw (c .joint-term .ensures, b2 .number-at .ensures, b3 .wrench-at .ensures, b4 .inertia-at .ensures)
 
 pub new-term-spec : {M : Type 1} → statement M
 new-term-spec =
     tie.close
     (tie.spec
-    motion-at-requires
-    reduced-at-requires
+    inertia-at-requires
     mul-wrench-at
     add-wrench-at
     wrench-at-requires

@@ -4,9 +4,6 @@ use borrow.Author.Needs.{needs}
 use Rattle.forward_visits.proofs.second.propagate.Statement.{statement}
 use Rattle.forward_visits.proofs.second.propagate.Tie as tie
 
-element-copy-out-fixed : tie.Need-element-copy-out-fixed
-element-copy-out-fixed c = search needs
-
 parent-at-requires : tie.Need-parent-at-requires
 parent-at-requires c κs = search needs
 
@@ -50,7 +47,6 @@ pub propagate-spec : {M : Type 1} → statement M
 propagate-spec =
     tie.close
     (tie.spec
-    element-copy-out-fixed
     parent-at-requires
     returns
     mul-add-into

@@ -18,17 +18,14 @@ joint-acceleration-requires c κs = search needs
 is-finite-requires : tie.Need-is-finite-requires
 is-finite-requires c κs = search needs
 
-motion-at-requires : tie.Need-motion-at-requires
-motion-at-requires c κs = search needs
+moved-by-requires : tie.Need-moved-by-requires
+moved-by-requires c κs = search needs
 
 mul-put-twist : tie.Need-mul-put-twist
 mul-put-twist c = search needs
 
 add-put-twist : tie.Need-add-put-twist
 add-put-twist c = search needs
-
-moved-by-requires : tie.Need-moved-by-requires
-moved-by-requires c κs = search needs
 
 put-twist-requires : tie.Need-put-twist-requires
 put-twist-requires c κs = search needs
@@ -53,7 +50,7 @@ same-length c = search needs
 
 returns : tie.Need-returns
 unfolding solvedJoint keptJoint
-returns c = let b2 = c .before .before in let b6 = b2 .before .before .before .before in let b7 = b6 .before in let b9 = b7 .before .before in let b10 = b9 .before in let b11 = b10 .before in let b12 = b11 .before in let b13 = b12 .before in rw (← b13 .term-at .ensures, ← b12 .joint-acceleration .ensures, ← b11 .is-finite .ensures, b10 .if1 .taken, b2 .put-number .ensures, b6 .put-twist .ensures, b7 .moved-by .ensures, b9 .motion-at .ensures)
+returns c = let b2 = c .before .before in let b6 = b2 .before .before .before .before in let b8 = b6 .before .before in let b9 = b8 .before in let b10 = b9 .before in let b11 = b10 .before in let b12 = b11 .before in rw (← b12 .term-at .ensures, ← b11 .joint-acceleration .ensures, ← b10 .is-finite .ensures, b9 .if1 .taken, b2 .put-number .ensures, b6 .put-twist .ensures, b8 .moved-by .ensures)
 
 same-length-2 : tie.Need-same-length-2
 same-length-2 c = search needs
@@ -71,10 +68,9 @@ solve-joint-spec =
     term-at-requires
     joint-acceleration-requires
     is-finite-requires
-    motion-at-requires
+    moved-by-requires
     mul-put-twist
     add-put-twist
-    moved-by-requires
     put-twist-requires
     mul-put-number
     add-put-number

@@ -1,7 +1,7 @@
 use Rattle.forward_visits.specs.Second.{putTerm}
 use borrow.Author.Needs.{needs}
-use Rattle.forward_visits.proofs.second.put_term.Statement.{statement}
-use Rattle.forward_visits.proofs.second.put_term.Tie as tie
+use Rattle.forward_visits.proofs.term.put_term.Statement.{statement}
+use Rattle.forward_visits.proofs.term.put_term.Tie as tie
 
 put-wrench-requires : tie.Need-put-wrench-requires
 put-wrench-requires c κs = search needs

@@ -1,7 +1,7 @@
 use Rattle.forward_visits.specs.Second.{termAt}
 use borrow.Author.Needs.{needs}
-use Rattle.forward_visits.proofs.second.term_at.Statement.{statement}
-use Rattle.forward_visits.proofs.second.term_at.Tie as tie
+use Rattle.forward_visits.proofs.term.term_at.Statement.{statement}
+use Rattle.forward_visits.proofs.term.term_at.Tie as tie
 
 wrench-at-requires : tie.Need-wrench-at-requires
 wrench-at-requires c κs = search needs

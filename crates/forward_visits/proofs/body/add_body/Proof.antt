@@ -1,7 +1,7 @@
 use Rattle.forward_visits.specs.Second.{addBody}
 use borrow.Author.Needs.{needs}
-use Rattle.forward_visits.proofs.second.add_body.Statement.{statement}
-use Rattle.forward_visits.proofs.second.add_body.Tie as tie
+use Rattle.forward_visits.proofs.body.add_body.Statement.{statement}
+use Rattle.forward_visits.proofs.body.add_body.Tie as tie
 
 mat6-at-requires : tie.Need-mat6-at-requires
 mat6-at-requires c κs = search needs

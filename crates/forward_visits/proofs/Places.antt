@@ -1,0 +1,186 @@
+-- A visit sets no place but those of the table: every other number keeps its bits. Assumes nothing.
+use mathlib.Core.Bool.{Bool, true, false, cond}
+use mathlib.Core.List.{List, [], _∷_, _++_}
+use mathlib.Core.Path.{_≡_, refl, _∙_}
+use Prim.Native.Nat.{ℕ, zero, suc, _+_, _-_}
+use native.Mathlib.Omega.{arith}
+use lib.Dec.{eqb, ltb}
+use lib.ListN.{getD}
+use lib.Ieee.{Float, nan}
+use Rattle.numbers.specs.Double.{finite}
+use Rattle.numbers.specs.declared.quaternion.Quaternion.{Quaternion}
+use Rattle.refusals.specs.declared.Verdict.{Verdict}
+use Rattle.refusals.specs.declared.Verdict.the-variants.{Fine, Refused}
+use Rattle.spatial.specs.declared.twist.Twist.{Twist}
+use Rattle.spatial.specs.declared.wrench.Wrench.{Wrench}
+use Rattle.slots.specs.Parts.{Part, part, Clear}
+use Rattle.slots.proofs.Blocks.{Outside, wider, both, set-outside, putTwist-outside, putWrench-outside, putFrame-outside, putTo-outside, zeroTo-outside}
+use Rattle.arm.specs.Model.{parentOf, motionOf}
+use Rattle.arm.specs.Topology.{activesOf}
+use Rattle.arm.specs.declared.joint.Motion.{Motion}
+use Rattle.arm.specs.declared.model.Model.{Model}
+use Rattle.articulated.specs.declared.second.Term.{Term}
+use Rattle.calls.specs.declared.plan.Plan.{Plan}
+use Rattle.forward_visits.specs.Layout.{inertiaPlace, forcePlace, rootInertiaPlace, rootForcePlace}
+use Rattle.forward_visits.specs.Loads.{loadsTo}
+use Rattle.forward_visits.specs.First.{putFirst, firstVisit}
+use Rattle.forward_visits.specs.Second.{fixedBy, putTerm, unlessRefused, keptTerm, eliminated, addBody, addMoved, addWhole, addReduced, addInto, propagated, secondVisit}
+use Rattle.forward_visits.specs.Root.{putRoot, begunOf, keptBase, floatingRoot, rootVisit}
+use Rattle.forward_visits.specs.Third.{keptJoint, solvedJoint, thirdVisit}
+use Rattle.forward_visits.specs.Kernel.{passVisit, visitOf}
+use Rattle.forward_visits.specs.Places.{loadParts, begunParts, firstParts, termParts, parentParts, rootParts, thirdParts, passParts, setBy}
+
+putTerm-outside : (s : List Float) (at : ℕ) (t : Term) → Outside at 8 s (putTerm s at t)
+unfolding putTerm
+putTerm-outside s at t =
+    both (wider (putWrench-outside s at (t .u)) (omega arith) (omega arith))
+    (both (wider (set-outside _ (at + 6) (t .d)) (omega arith) (omega arith)) (wider (set-outside _ (at + 7) (t .bias)) (omega arith) (omega arith)))
+
+-- what a visit leaves
+abbrev left : Verdict × List Float → List Float
+left e = e .1
+
+abbrev same : List Float → List Float
+same ws = ws
+
+-- ---- parts
+
+clear-first : (some more : List Part) (i : ℕ) → Clear (some ++ more) i → Clear some i
+unfolding Clear
+clear-first [] more i c = tt
+clear-first (p ∷ some) more i c = (c .0, clear-first some more i (c .1))
+
+clear-rest : (some more : List Part) (i : ℕ) → Clear (some ++ more) i → Clear more i
+unfolding Clear
+clear-rest [] more i c = c
+clear-rest (p ∷ some) more i c = clear-rest some more i (c .1)
+
+-- t is s but for the parts
+record Sets (parts : List Part) (s t : List Float) : Type 0 where
+  kept : (i : ℕ) → Clear parts i → getD t i nan ≡ getD s i nan
+
+none : {parts : List Part} (s : List Float) → Sets parts s s
+none s = record { kept = λ i c. refl }
+
+here : {at l : ℕ} {more : List Part} {s t : List Float} → Outside at l s t → Sets (part at l ∷ more) s t
+unfolding Clear
+here f = record { kept = λ i c. f .kept i (c .0) }
+
+there : {p : Part} {more : List Part} {s t : List Float} → Sets more s t → Sets (p ∷ more) s t
+unfolding Clear
+there f = record { kept = λ i c. f .kept i (c .1) }
+
+-- one after another, of the same parts, and of more
+then : {parts : List Part} {s t u : List Float} → Sets parts s t → Sets parts t u → Sets parts s u
+then f g = record { kept = λ i c. g .kept i c ∙ f .kept i c }
+
+row : (some more : List Part) {s t u : List Float} → Sets some s t → Sets more t u → Sets (some ++ more) s u
+row some more f g = record { kept = λ i c. g .kept i (clear-rest some more i c) ∙ f .kept i (clear-first some more i c) }
+
+-- a choice, of the same parts, and of the parts of each way
+choice : {S : Type 0} (f : S → List Float) (b : Bool) {x y : S} {parts : List Part} {s : List Float} → Sets parts s (f x) → Sets parts s (f y) → Sets parts s (f (cond b x y))
+choice f true d e = d
+choice f false d e = e
+
+way : {S : Type 0} (f : S → List Float) (b : Bool) {x y : S} {some more : List Part} {s : List Float} → Sets some s (f x) → Sets more s (f y) → Sets (cond b some more) s (f (cond b x y))
+way f true d e = d
+way f false d e = e
+
+-- a visit that refuses sets fewer
+unless : (v : Verdict) {parts : List Part} {s ws done : List Float} → Sets parts s ws → Sets parts s done → Sets parts s (unlessRefused v ws (Fine, done) .1)
+unfolding unlessRefused
+unless Fine d e = e
+unless (Refused number p) d e = d
+
+-- ---- the first visit and the first pass
+
+loads-sets : (loaded : List ℕ) (loads : List Float) (n : ℕ) (ws : List Float) → Sets (loadParts n) ws (loadsTo loaded loads n ws)
+unfolding loadParts loadsTo
+loads-sets loaded loads zero ws = none ws
+loads-sets loaded loads (suc j) ws = then (there (loads-sets loaded loads j ws)) (here (putWrench-outside _ _ _))
+
+begun-sets : (n : ℕ) (velocity : Twist) (links : List Float) (loaded : List ℕ) (loads : List Float) (k : ℕ) (ws : List Float)
+    → Sets (cond (eqb k 0) (begunParts n) []) ws (begunOf n velocity links loaded loads k ws)
+unfolding begunParts begunOf putRoot
+begun-sets n velocity links loaded loads k ws =
+    way same (eqb k 0)
+    (then (there (there (loads-sets loaded loads n ws))) (then (here (putTo-outside _ _ _ 36)) (there (here (putWrench-outside _ _ _)))))
+    (none ws)
+
+first-sets : (velocity : Twist) (m : Model) (q qd : List Float) (j : ℕ) (ws : List Float) → Sets (firstParts j) ws (firstVisit velocity m q qd j ws)
+unfolding firstParts firstVisit putFirst
+first-sets velocity m q qd j ws =
+    then (here (putFrame-outside _ _ _))
+    (then (there (here (putTwist-outside _ _ _)))
+    (then (there (there (here (putTwist-outside _ _ _))))
+    (then (there (there (there (there (here (putWrench-outside _ _ _)))))) (there (there (there (here (putTo-outside _ _ _ 36))))))))
+
+-- ---- the second pass
+
+term-sets : (p : Plan) (motion : Motion) (number : ℕ) (forces : List Float) (j : ℕ) (ws : List Float) → Sets (termParts motion j) ws (eliminated p motion number forces j ws .1)
+unfolding termParts eliminated keptTerm
+term-sets p motion number forces j ws = way left (fixedBy motion) (none ws) (unless _ (none ws) (here (putTerm-outside _ _ _)))
+
+-- an inertia, and its force at a place behind it
+module _ (at behind : ℕ) (h : behind ≡ at + 36) where
+  moved-sets : (inertia : List Float) (force : Wrench) (j : ℕ) (ws : List Float) → Sets (part at 36 ∷ part behind 6 ∷ []) ws (addMoved inertia force at j ws)
+  unfolding addMoved addBody
+  moved-sets inertia force j ws = then (here (putTo-outside _ _ _ 36)) (there (here (wider (putWrench-outside _ _ _) (omega arith) (omega arith))))
+
+  added-sets : (motion : Motion) (j : ℕ) (ws : List Float) → Sets (part at 36 ∷ part behind 6 ∷ []) ws (addInto motion at j ws)
+  unfolding addInto addWhole addReduced
+  added-sets motion j ws = choice same (fixedBy motion) (moved-sets _ _ j ws) (moved-sets _ _ j ws)
+
+propagated-sets : (p : Plan) (motion : Motion) (parent j : ℕ) (ws : List Float) → Sets (parentParts p parent) ws (propagated p motion parent j ws)
+unfolding parentParts propagated
+propagated-sets p motion parent j ws =
+    way same (eqb parent 0)
+    (way same (eqb (p .lead) 0) (none ws) (added-sets (rootInertiaPlace (p .n)) (rootForcePlace (p .n)) refl motion j ws))
+    (added-sets (inertiaPlace (parent - 1)) (forcePlace (parent - 1)) (omega arith) motion j ws)
+
+second-sets : (p : Plan) (parents kinds : List ℕ) (axes forces : List Float) (j : ℕ) (ws : List Float)
+    → Sets (termParts (motionOf kinds axes j) j ++ parentParts p (parentOf parents j)) ws (secondVisit p parents kinds axes forces j ws .1)
+unfolding secondVisit
+second-sets p parents kinds axes forces j ws =
+    let motion = motionOf kinds axes j in
+    let parent = parentOf parents j in
+    let e = term-sets p motion (activesOf kinds j) forces j ws in
+    unless _ (row (termParts motion j) (parentParts p parent) e (none _)) (row (termParts motion j) (parentParts p parent) e (propagated-sets p motion parent j _))
+
+-- ---- the root and the third pass
+
+root-sets : (p : Plan) (rotation : Quaternion) (velocity : Twist) (forces ws : List Float) → Sets (rootParts p) ws (rootVisit p rotation velocity forces ws .1)
+unfolding rootParts rootVisit floatingRoot keptBase
+root-sets p rotation velocity forces ws =
+    way left (eqb (p .lead) 0)
+    (then (here (zeroTo-outside _ _ (p .side))) (there (here (putTwist-outside _ _ _))))
+    (unless _ (here (zeroTo-outside _ _ (p .side)))
+    (then (here (zeroTo-outside _ _ (p .side))) (then (there (here (putTwist-outside _ _ _))) (there (there (here (putTwist-outside _ _ _)))))))
+
+third-sets : (p : Plan) (parents kinds : List ℕ) (axes : List Float) (j : ℕ) (ws : List Float)
+    → Sets (thirdParts p (motionOf kinds axes j) (activesOf kinds j) j) ws (thirdVisit p parents kinds axes j ws .1)
+unfolding thirdParts thirdVisit solvedJoint keptJoint
+third-sets p parents kinds axes j ws =
+    way left (fixedBy (motionOf kinds axes j))
+    (here (putTwist-outside _ _ _))
+    (choice left (finite _) (then (here (putTwist-outside _ _ _)) (there (here (set-outside _ _ _)))) (none ws))
+
+-- ---- the visits
+
+module _ (p : Plan) (rotation : Quaternion) (velocity : Twist) (m : Model) (q qd forces : List Float) where
+  pass-sets : (k : ℕ) (ws : List Float) → Sets (passParts p m k) ws (passVisit p rotation velocity m q qd forces k ws .1)
+  unfolding passParts passVisit
+  pass-sets k ws =
+      let n = p .n in
+      way left (ltb k n) (first-sets velocity m q qd k ws)
+      (way left (ltb k (n + n)) (second-sets p (m .parents) (m .kinds) (m .axes) forces (n + n - 1 - k) ws)
+      (way left (eqb k (n + n)) (root-sets p rotation velocity forces ws) (third-sets p (m .parents) (m .kinds) (m .axes) (k - (n + n) - 1) ws)))
+
+  visit-sets : (loaded : List ℕ) (loads : List Float) (k : ℕ) (ws : List Float) → Sets (setBy p m k) ws (visitOf p rotation velocity m q qd forces loaded loads k ws .1)
+  unfolding setBy visitOf
+  visit-sets loaded loads k ws = row (cond (eqb k 0) (begunParts (p .n)) []) (passParts p m k) (begun-sets (p .n) velocity (m .links) loaded loads k ws) (pass-sets k _)
+
+  -- whatever the arguments are: past the workspace's end a number is NaN before and after
+  pub keeps : (loaded : List ℕ) (loads : List Float) (k : ℕ) (ws : List Float) (i : ℕ) → Clear (setBy p m k) i
+      → getD (visitOf p rotation velocity m q qd forces loaded loads k ws .1) i nan ≡ getD ws i nan
+  keeps loaded loads k ws i c = visit-sets loaded loads k ws .kept i c
