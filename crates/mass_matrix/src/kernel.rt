@@ -1,6 +1,6 @@
 // The visits: frames rising, composites falling, active columns rising, the root.
 ghost use mathlib.Core.Path.{_≡_};
-ghost use Prim.Native.Nat.{_+_, _*_, _-_, _≤_, _<_};
+ghost use Prim.Native.Nat.{_+_, _≤_, _<_};
 ghost use lib.ListN.{length, take, drop};
 ghost use Rattle.numbers.specs.Double.{allFinite};
 ghost use Rattle.slots.specs.Slots.{putWrench};

@@ -1,7 +1,7 @@
 // The public calls: start, portion and the undivided call, each on a fixed and on a floating root.
 ghost use mathlib.Core.Bool.{true, false};
 ghost use mathlib.Core.Path.{_≡_};
-ghost use Prim.Native.Nat.{_+_, _*_, _≤_};
+ghost use Prim.Native.Nat.{_≤_};
 ghost use lib.ListN.{length};
 ghost use Rattle.arm.specs.Model.{bundle};
 ghost use Rattle.arm.specs.Topology.{activesOf, activeNumbers};
@@ -168,7 +168,7 @@ fn run<'a>(
     budget: usize,
 ) -> Progress
     requires { ⌜ Ready p (now parents) (now kinds) (now numbers) (length (now q)) (length (now ws)) (length (now out)) × Within p from ⌝ }
-    ensures { λ t. ⌜ (t, now (ws .exit), now (out .exit)) ≡ iterate (stepBy (visitOf p r (bundle (p .n) (now (parents .entry)) (now (kinds .entry)) (now (origins .entry)) (now (axes .entry)) (now (links .entry))) (now (q .entry))) (matrixPlace (p .n))) budget (opening from, now (ws .entry), now (out .entry)) ⌝ }
+    ensures { λ t. ⌜ ((t, now (ws .exit), now (out .exit)) ≡ iterate (stepBy (visitOf p r (bundle (p .n) (now (parents .entry)) (now (kinds .entry)) (now (origins .entry)) (now (axes .entry)) (now (links .entry))) (now (q .entry))) (matrixPlace (p .n))) budget (opening from, now (ws .entry), now (out .entry))) × (from .visits ≤ t .position .visits) ⌝ }
 {
     let mut s = Progress {
         position: from,

@@ -1,6 +1,6 @@
 // The workspace's places, and the entries of the matrix in it.
 ghost use mathlib.Core.Path.{_≡_};
-ghost use Prim.Native.Nat.{_+_, _*_, _≤_, _<_};
+ghost use Prim.Native.Nat.{_+_, _≤_, _<_};
 ghost use lib.ListN.{length};
 ghost use Rattle.arm.specs.Model.{kindOf};
 ghost use Rattle.slots.specs.Slots.{putWrench};
@@ -11,11 +11,13 @@ use arm::topology;
 use calls::plan::Plan;
 use spatial::wrench::Wrench;
 
-// How many numbers a joint has, where among them its composite stands, and how many the root has, behind the joints.
+// A joint's numbers: its frame, then its composite.
 pub const JOINT: usize = 32;
 
+// A frame's, so where the composite stands among them.
 pub const COMPOSITE: usize = 7;
 
+// The root's, behind the joints; the matrix stands behind them.
 pub const ROOT: usize = 64;
 
 // The place of a row and a column: column by column, behind the root's numbers.

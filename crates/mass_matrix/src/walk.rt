@@ -1,6 +1,6 @@
 // The walk of one column: from a joint to its parent until the root is reached.
 ghost use mathlib.Core.Path.{_≡_};
-ghost use Prim.Native.Nat.{_+_, _*_, _≤_, _<_};
+ghost use Prim.Native.Nat.{_+_, _≤_, _<_};
 ghost use lib.ListN.{length};
 ghost use Rattle.spatial.specs.Operators.{wrenchToParent};
 ghost use Rattle.spatial.specs.Wrench.{rotatedOf};

@@ -76,7 +76,7 @@ module _ (mode : Mode) (m : Model) (q ws out : List Float) (floating : Bool) (r 
   portion-refused budget p v number i t ev h et = rw (← ef, ← er, ← ev, h, et)
 
   -- what a run gave
-  module _ (a : ℕ) (plan : Plan) (p : Position) (s : Progress) (t : Answer) (ws′ out′ : List Float) (ea : a ≡ activesOf (m .kinds) (m .n)) (epl : plan ≡ planBy floating (m .n) a) (et : t ≡ answerBy p s) where
+  module _ (a : ℕ) (plan : Plan) (p : Position) (s : Progress) (t : Answer) (ws′ out′ : List Float) (ea : a ≡ activesOf (m .kinds) (m .n)) (epl : plan ≡ planBy floating (m .n) a) where
     -- the model, as it was lent
     abbrev lent : Model
     lent = bundle (plan .n) (m .parents) (m .kinds) (m .origins) (m .axes) (m .links)
@@ -87,16 +87,18 @@ module _ (mode : Mode) (m : Model) (q ws out : List Float) (floating : Bool) (r 
 
     pub portion-fine : (budget : ℕ) (v : Verdict) → v ≡ orElse inputs (positionVerdict true floating (m .n) (activesOf (m .kinds) (m .n)) p) → v ≡ Fine
         → (s, ws′, out′) ≡ iterate (stepBy (visitOf plan r lent q) (matrixPlace (plan .n))) budget (opening p, ws, out)
+        → t ≡ answerBy p s
         → (t, ws′, out′) ≡ portionOf (massMatrix mode m q) budget p ws out
     unfolding portionOf massMatrix
-    portion-fine budget v ev h es =
+    portion-fine budget v ev h es et =
         let run = es ∙ ap (λ (k : Model). iterate (stepBy (visitOf plan r k q) (matrixPlace (plan .n))) budget (opening p, ws, out)) lent-is in
         rw (← ef, ← er, ← ev, h, ← ea, ← epl, ← run, et)
 
     pub whole-fine : (all : ℕ) (v : Verdict) (ws₁ : List Float) → v ≡ inputs → v ≡ Fine → p ≡ freshAt true floating (m .n) a → all ≡ visitsOf true (m .n) a → ws₁ ≡ cleared ws
         → (s, ws′, out′) ≡ iterate (stepBy (visitOf plan r lent q) (matrixPlace (plan .n))) all (opening p, ws₁, out)
+        → t ≡ answerBy p s
         → (t, ws′, out′) ≡ wholeOf (massMatrix mode m q) ws out
     unfolding wholeOf massMatrix
-    whole-fine all v ws₁ ev h ep el ew es =
+    whole-fine all v ws₁ ev h ep el ew es et =
         let run = es ∙ ap (λ (k : Model). iterate (stepBy (visitOf plan r k q) (matrixPlace (plan .n))) all (opening p, ws₁, out)) lent-is in
         rw (← ef, ← er, ← ev, h, ← ea, ← epl, ← el, ← ep, ← ew, ← run, et)

@@ -1,4 +1,3 @@
-use Prim.Native.Nat.{_+_, _*_}
 use native.Mathlib.Omega.{arith}
 use Rattle.arm.specs.Model.{bundle}
 use borrow.Author.Needs.{needs}
