@@ -48,11 +48,13 @@ no-motion : (kind : ℕ) (axis : Vec3) → 2 < kind → motionBy kind axis ≡ F
 unfolding motionBy
 no-motion kind axis h = simp (ne-eqb kind 0 (λ e. omega arith), ne-eqb kind 1 (λ e. omega arith))
 
--- ---- place i lies in none of the parts; and it keeps its number from s to t, and lies in none of the parts that are left
+-- ---- one place through the stores
 
+-- place i lies in none of the parts
 record Free (i : ℕ) (parts : List Part) : Type 0 where
   clear : Clear parts i
 
+-- it keeps its number from s to t, and lies in none of the parts that are left
 record Kept (i : ℕ) (more : List Part) (s t : List Float) : Type 0 where
   same : getD t i nan ≡ getD s i nan
   rest : Free i more
