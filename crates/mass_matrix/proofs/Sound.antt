@@ -2,21 +2,21 @@
 use mathlib.Core.Bool.{Bool, true, false}
 use mathlib.Core.List.{List}
 use mathlib.Core.Path.{_≡_, refl, _∙_}
-use Prim.Native.Nat.{ℕ, zero, suc, _+_, _-_, _*_, _<_}
+use Prim.Native.Nat.{ℕ, zero, suc, _+_, _-_, _<_}
 use native.Mathlib.Omega.{arith}
 use borrow.Author.Tests.{lt-ltb}
 use lib.Dec.{eqb, ltb}
 use lib.ListN.{length, length-set}
 use lib.Ieee.{Float}
 use Rattle.numbers.specs.declared.quaternion.Quaternion.{Quaternion}
-use Rattle.refusals.specs.Refusals.{scan}
 use Rattle.refusals.specs.declared.Place.{Place}
 use Rattle.refusals.specs.declared.Place.the-variants.{At, Nothing}
 use Rattle.spatial.specs.declared.wrench.Wrench.{Wrench}
 use Rattle.slots.proofs.Lengths.{length-putVec3, length-putMat3, length-putWrench, length-putFrame, length-zeroTo}
-use Rattle.arm.specs.Joint.{isFixed}
-use Rattle.arm.specs.Model.{parentOf, kindOf}
-use Rattle.arm.specs.Topology.{activesOf}
+use Rattle.arm.specs.Model.{parentOf}
+use Rattle.arm.specs.Topology.{activeJoint}
+use Rattle.arm.specs.declared.joint.Motion.{Motion}
+use Rattle.arm.specs.declared.joint.Motion.the-variants.{Turn, Slide, Fixed}
 use Rattle.arm.specs.declared.model.Link.{Link}
 use Rattle.arm.specs.declared.model.Model.{Model}
 use Rattle.calls.specs.Position.{visitsOf, ended}
@@ -25,10 +25,10 @@ use Rattle.calls.specs.declared.position.Outcome.{Outcome}
 use Rattle.calls.specs.declared.position.Outcome.the-variants.{Open}
 use Rattle.calls.proofs.Kept.{either-way}
 use Rattle.mass_matrix.specs.Composite.{putComposite}
-use Rattle.mass_matrix.specs.Kernel.{begunOf, frameVisit, addInto, compositeVisit, baseRows, columnVisit, holdsOf, columnFound, loadsTo, rootColumns, rootVisit, jointVisit, visitOf}
+use Rattle.mass_matrix.specs.Kernel.{begunOf, frameVisit, addInto, compositeVisit, baseRows, columnVisit, columnFound, baseLoadsTo, rootColumns, rootVisit, jointVisit, visitOf}
 use Rattle.mass_matrix.specs.MassMatrix.{floats, rotationOf, massMatrix}
 use Rattle.calls.specs.Plan.{planBy, planOf}
-use Rattle.mass_matrix.specs.Plan.{putPair, putSix}
+use Rattle.mass_matrix.specs.Plan.{compositePlace, rootPlace, putPair, putSix}
 use Rattle.mass_matrix.specs.Walk.{putEntry, walkStep, climb, walkOf}
 use Rattle.mass_matrix.specs.declared.mass_matrix.Mode.{Mode}
 use Rattle.calls.specs.declared.plan.Plan.{Plan}
@@ -48,6 +48,12 @@ length-putSix : (p : Plan) (column : ℕ) (w : Wrench) (ws : List Float) → len
 unfolding putSix
 length-putSix p column w ws = simp length-putPair
 
+length-putEntry : (p : Plan) (motion : Motion) (row column : ℕ) (entry : Float) (ws : List Float) → length (putEntry p motion row column entry ws) ≡ length ws
+unfolding putEntry
+length-putEntry p (Turn axis) row column entry ws = length-putPair p row column entry ws
+length-putEntry p (Slide axis) row column entry ws = length-putPair p row column entry ws
+length-putEntry p Fixed row column entry ws = refl
+
 length-begun : (p : Plan) (links : List Float) (at : ℕ) (ws : List Float) → length (begunOf p links at ws) ≡ length ws
 unfolding begunOf
 length-begun p links at ws =
@@ -60,7 +66,7 @@ length-addInto at j ws = simp length-putComposite
 length-composite : (p : Plan) (parent j : ℕ) (ws : List Float) → length (compositeVisit p parent j ws) ≡ length ws
 unfolding compositeVisit
 length-composite p parent j ws =
-    either-way length (eqb parent 0) (either-way length (eqb (p .lead) 0) refl (length-addInto (p .n * 32) j ws)) (length-addInto ((parent - 1) * 32 + 7) j ws)
+    either-way length (eqb parent 0) (either-way length (eqb (p .lead) 0) refl (length-addInto (rootPlace (p .n)) j ws)) (length-addInto (compositePlace (parent - 1)) j ws)
 
 -- a walk keeps what each of its joints keeps
 climb-keeps : {S T : Type 0} (f : S → T) (up : ℕ → ℕ) (act : ℕ → S → S) → ((j : ℕ) (s : S) → f (act j s) ≡ f s) → (k j : ℕ) (s : S) → f (climb up act k j s) ≡ f s
@@ -72,10 +78,9 @@ abbrev size : Wrench × List Float → ℕ
 size s = length (s .1)
 
 length-walk : (p : Plan) (parents kinds : List ℕ) (axes : List Float) (column j : ℕ) (s : Wrench × List Float) → size (walkOf p parents kinds axes column j s) ≡ size s
-unfolding walkOf walkStep putEntry
+unfolding walkOf walkStep
 length-walk p parents kinds axes column j s =
-    climb-keeps size (parentOf parents) (walkStep p kinds axes column)
-    (λ i t. either-way length (isFixed (kindOf kinds i)) refl (length-putPair p (p .lead + activesOf kinds i) column _ (t .1))) (suc j) j s
+    climb-keeps size (parentOf parents) (walkStep p kinds axes column) (λ i t. length-putEntry p _ _ column _ (t .1)) (suc j) j s
 
 length-found : (p : Plan) (r : Quaternion) (parents kinds : List ℕ) (axes : List Float) (i : Place) (ws : List Float) → length (columnFound p r parents kinds axes i ws) ≡ length ws
 unfolding columnFound columnVisit baseRows
@@ -89,10 +94,10 @@ length-joint p r m q at ws =
     let n = p .n in
     either-way length (ltb at n) (simp (length-putComposite, length-putFrame))
     (either-way length (ltb at (n + n)) (length-composite p _ (n + n - 1 - at) ws)
-    (length-found p r (m .parents) (m .kinds) (m .axes) (scan (holdsOf (m .kinds) (at - (n + n))) (n - (at - (n + n))) (at - (n + n))) ws))
+    (length-found p r (m .parents) (m .kinds) (m .axes) (activeJoint (m .kinds) n (at - (n + n))) ws))
 
-length-loads : (p : Plan) (r : Quaternion) (root : Link) (k : ℕ) (ws : List Float) → length (loadsTo p r root k ws) ≡ length ws
-unfolding loadsTo
+length-loads : (p : Plan) (r : Quaternion) (root : Link) (k : ℕ) (ws : List Float) → length (baseLoadsTo p r root k ws) ≡ length ws
+unfolding baseLoadsTo
 length-loads p r root zero ws = refl
 length-loads p r root (suc k) ws = length-putWrench _ _ _ ∙ length-loads p r root k ws
 

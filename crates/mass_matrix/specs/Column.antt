@@ -6,9 +6,9 @@ use lib.Dec.{eqb, leb, ltb}
 use lib.ListN.{length, take, drop}
 use lib.Ieee.{Float}
 
--- 25: side 0 or above 38, length not side squared, column not below side
+-- 25: side 0 or above 38, count not side squared, column not below side
 unfoldable pub badColumn : ℕ → ℕ → ℕ → Bool
-badColumn side column length = eqb side 0 || (ltb 38 side || (not (eqb length (side * side)) || leb side column))
+badColumn side column count = eqb side 0 || (ltb 38 side || (not (eqb count (side * side)) || leb side column))
 
 -- the empty part where it refuses
 unfoldable pub columnOf : ℕ → ℕ → List Float → List Float

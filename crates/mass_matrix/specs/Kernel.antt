@@ -1,6 +1,5 @@
 -- The visits of the mass matrix, on any workspace numbers (document 01, "Visits"; `mass_matrix.rs`). Definitions only.
--- Joint j has 32 numbers at j * 32: its frame (7), then its composite (13). A floating root's composite stands at n * 32.
-use mathlib.Core.Bool.{Bool, false, cond}
+use mathlib.Core.Bool.{cond}
 use mathlib.Core.List.{List}
 use Prim.Native.Nat.{ℕ, zero, suc, _+_, _-_, _*_, _%_}
 use lib.Dec.{eqb, ltb}
@@ -10,45 +9,47 @@ use Rattle.numbers.specs.Double.{0·0, 1·0, allFinite}
 use Rattle.numbers.specs.Quaternion.{inverseOf, rotateOf}
 use Rattle.numbers.specs.declared.vec3.Vec3.{Vec3}
 use Rattle.numbers.specs.declared.quaternion.Quaternion.{Quaternion}
-use Rattle.refusals.specs.Refusals.{scan}
 use Rattle.refusals.specs.declared.Place.{Place}
 use Rattle.refusals.specs.declared.Place.the-variants.{At, Nothing}
 use Rattle.spatial.specs.Wrench.{rotatedOf}
 use Rattle.spatial.specs.declared.wrench.Wrench.{Wrench}
 use Rattle.slots.specs.Slots.{frameAt, putFrame, putWrench, zeroTo}
-use Rattle.arm.specs.Joint.{isFixed, frameOf}
-use Rattle.arm.specs.Model.{parentOf, kindOf, motionOf, jointOf, linkOf}
-use Rattle.arm.specs.Topology.{activesOf, valueOf}
+use Rattle.arm.specs.Joint.{frameOf}
+use Rattle.arm.specs.Model.{parentOf, motionOf, jointOf, linkOf}
+use Rattle.arm.specs.Topology.{activesOf, valueOf, activeJoint}
 use Rattle.arm.specs.declared.joint.Motion.the-variants.{Turn, Slide}
 use Rattle.arm.specs.declared.model.Link.{Link}
 use Rattle.arm.specs.declared.model.Model.{Model}
 use Rattle.calls.specs.declared.position.Outcome.{Outcome}
 use Rattle.calls.specs.declared.position.Outcome.the-variants.{Open, Accepted, Refused}
 use Rattle.mass_matrix.specs.Composite.{compositeAt, putComposite, toParentOf, joinedOf, forceOf}
-use Rattle.mass_matrix.specs.Plan.{placeOf, putSix}
+use Rattle.mass_matrix.specs.Plan.{framePlace, compositePlace, rootPlace, matrixPlace, placeOf, putSix}
 use Rattle.mass_matrix.specs.Walk.{walkOf}
 use Rattle.calls.specs.declared.plan.Plan.{Plan}
 
 -- what the Rust sets before its loops comes with the first visit: the matrix is +0.0, and a floating root has its own link's numbers
 unfoldable pub begunOf : Plan → List Float → ℕ → List Float → List Float
 begunOf p links at ws =
-    let zeroed = zeroTo ws (p .n * 32 + 64) (p .side * p .side) in
-    cond (eqb at 0) (cond (eqb (p .lead) 0) zeroed (putComposite zeroed (p .n * 32) (linkOf links 0))) ws
+    let zeroed = zeroTo ws (matrixPlace (p .n)) (p .side * p .side) in
+    cond (eqb at 0) (cond (eqb (p .lead) 0) zeroed (putComposite zeroed (rootPlace (p .n)) (linkOf links 0))) ws
 
 -- ---- frames rising: joint j's frame, and its own link as the start of its composite
 
 unfoldable pub frameVisit : Model → List Float → ℕ → List Float → List Float
 frameVisit m q j ws =
     let joint = jointOf (m .parents) (m .kinds) (m .origins) (m .axes) j in
-    putComposite (putFrame ws (j * 32) (frameOf (joint .origin) (joint .motion) (valueOf (m .kinds) q j))) (j * 32 + 7) (linkOf (m .links) (j + 1))
+    let framed = putFrame ws (framePlace j) (frameOf (joint .origin) (joint .motion) (valueOf (m .kinds) q j)) in
+    putComposite framed (compositePlace j) (linkOf (m .links) (j + 1))
 
 -- ---- composites falling: into the parent's, or the root's where it floats
 
 unfoldable pub addInto : ℕ → ℕ → List Float → List Float
-addInto at j ws = putComposite ws at (joinedOf (compositeAt ws at) (toParentOf (compositeAt ws (j * 32 + 7)) (frameAt ws (j * 32))))
+addInto at j ws = putComposite ws at (joinedOf (compositeAt ws at) (toParentOf (compositeAt ws (compositePlace j)) (frameAt ws (framePlace j))))
 
 unfoldable pub compositeVisit : Plan → ℕ → ℕ → List Float → List Float
-compositeVisit p parent j ws = cond (eqb parent 0) (cond (eqb (p .lead) 0) ws (addInto (p .n * 32) j ws)) (addInto ((parent - 1) * 32 + 7) j ws)
+compositeVisit p parent j ws =
+    cond (eqb parent 0) (cond (eqb (p .lead) 0) ws (addInto (rootPlace (p .n)) j ws))
+    (addInto (compositePlace (parent - 1)) j ws)
 
 -- ---- active columns rising
 
@@ -59,19 +60,15 @@ baseRows p r column s = cond (eqb (p .lead) 0) (s .1) (putSix p column (rotatedO
 unfoldable pub columnVisit : Plan → Quaternion → List ℕ → List ℕ → List Float → ℕ → List Float → List Float
 columnVisit p r parents kinds axes j ws =
     let column = p .lead + activesOf kinds j in
-    baseRows p r column (walkOf p parents kinds axes column j (forceOf (motionOf kinds axes j) (compositeAt ws (j * 32 + 7)), ws))
-
--- joint j is active and has active number k
-unfoldable pub holdsOf : List ℕ → ℕ → ℕ → Bool
-holdsOf kinds k j = cond (isFixed (kindOf kinds j)) false (eqb (activesOf kinds j) k)
+    baseRows p r column (walkOf p parents kinds axes column j (forceOf (motionOf kinds axes j) (compositeAt ws (compositePlace j)), ws))
 
 unfoldable pub columnFound : Plan → Quaternion → List ℕ → List ℕ → List Float → Place → List Float → List Float
 columnFound p r parents kinds axes (At j) ws = columnVisit p r parents kinds axes j ws
 columnFound p r parents kinds axes Nothing ws = ws
 
--- a joint's active number is at most its own, so the search starts at k
+-- of active number k
 abbrev pub activeColumn : Plan → Quaternion → Model → ℕ → List Float → List Float
-activeColumn p r m k ws = columnFound p r (m .parents) (m .kinds) (m .axes) (scan (holdsOf (m .kinds) k) (p .n - k) k) ws
+activeColumn p r m k ws = columnFound p r (m .parents) (m .kinds) (m .axes) (activeJoint (m .kinds) (p .n) k) ws
 
 -- ---- the root: a floating base's six columns, then every entry is tested
 
@@ -83,22 +80,22 @@ worldAxis k =
     (record { x = 0·0; y = 0·0; z = 1·0 }))
 
 -- what moves the whole arm along base direction k, in the world
-unfoldable pub loadOf : Quaternion → Link → ℕ → Wrench
-loadOf r root k =
+unfoldable pub baseLoad : Quaternion → Link → ℕ → Wrench
+baseLoad r root k =
     let axis = rotateOf (inverseOf r) (worldAxis (k % 3)) in
     cond (ltb k 3) (rotatedOf (forceOf (Turn axis) root) r) (rotatedOf (forceOf (Slide axis) root) r)
 
 -- the first k columns
-unfoldable pub loadsTo : Plan → Quaternion → Link → ℕ → List Float → List Float
-loadsTo p r root zero ws = ws
-loadsTo p r root (suc k) ws = putWrench (loadsTo p r root k ws) (placeOf p 0 k) (loadOf r root k)
+unfoldable pub baseLoadsTo : Plan → Quaternion → Link → ℕ → List Float → List Float
+baseLoadsTo p r root zero ws = ws
+baseLoadsTo p r root (suc k) ws = putWrench (baseLoadsTo p r root k ws) (placeOf p 0 k) (baseLoad r root k)
 
 unfoldable pub rootColumns : Plan → Quaternion → List Float → List Float
-rootColumns p r ws = cond (eqb (p .lead) 0) ws (loadsTo p r (compositeAt ws (p .n * 32)) 6 ws)
+rootColumns p r ws = cond (eqb (p .lead) 0) ws (baseLoadsTo p r (compositeAt ws (rootPlace (p .n))) 6 ws)
 
 -- 37: an entry is not finite
 unfoldable pub tested : Plan → List Float → Outcome
-tested p ws = cond (allFinite (take (p .side * p .side) (drop (p .n * 32 + 64) ws))) Accepted (Refused 37 Nothing)
+tested p ws = cond (allFinite (take (p .side * p .side) (drop (matrixPlace (p .n)) ws))) Accepted (Refused 37 Nothing)
 
 unfoldable pub rootVisit : Plan → Quaternion → List Float → Outcome × List Float
 rootVisit p r ws = let full = rootColumns p r ws in (tested p full, full)

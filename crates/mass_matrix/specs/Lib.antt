@@ -4,3 +4,4 @@ pub mod Walk
 pub mod Kernel
 pub mod MassMatrix
 pub mod Column
+pub mod Places

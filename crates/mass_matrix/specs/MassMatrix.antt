@@ -18,7 +18,7 @@ use Rattle.calls.specs.Position.{Work}
 use Rattle.calls.specs.declared.position.Position.{Position}
 use Rattle.mass_matrix.specs.Kernel.{visitOf}
 use Rattle.calls.specs.Plan.{planOf, Fit}
-use Rattle.mass_matrix.specs.Plan.{Room}
+use Rattle.mass_matrix.specs.Plan.{matrixPlace, Room}
 use Rattle.mass_matrix.specs.declared.mass_matrix.Mode.{Mode}
 use Rattle.mass_matrix.specs.declared.mass_matrix.Mode.the-variants.{Fixed, Floating}
 use Rattle.calls.specs.declared.plan.Plan.{Plan}
@@ -35,7 +35,7 @@ unfoldable pub inputsVerdict : Bool → Quaternion → ℕ → List ℕ → List
 inputsVerdict floating r n parents kinds q ws out =
     let side = planOf floating n kinds .side in
     orElse (plainOf 9 (wildOf n parents kinds))
-    (orElse (plainOf 10 (ltb ws (n * 32 + 64 + side * side)))
+    (orElse (plainOf 10 (ltb ws (matrixPlace n + side * side)))
     (orElse (valuesVerdict 11 12 kinds n q)
     (restVerdict n side floating r kinds q out)))
 
@@ -58,7 +58,7 @@ massMatrix mode m q =
       a = activesOf (m .kinds) (m .n);
       inputs = inputsVerdict (floats mode) (rotationOf mode) (m .n) (m .parents) (m .kinds) q;
       visit = visitOf p (rotationOf mode) m q;
-      results = p .n * 32 + 64;
+      results = matrixPlace (p .n);
     }
 
 -- ---- what the steps of the code promise each other

@@ -1,4 +1,4 @@
--- The places of a matrix's entries: column by column, behind the joints' 32 numbers each and the root's 64. Definitions only.
+-- The workspace's places (docs/LAYOUT.md), and the entries of the matrix in it. Definitions only.
 use mathlib.Core.List.{List}
 use Prim.Native.Nat.{ℕ, _+_, _*_, _≤_}
 use lib.ListN.{set}
@@ -6,12 +6,31 @@ use lib.Ieee.{Float}
 use Rattle.spatial.specs.declared.wrench.Wrench.{Wrench}
 use Rattle.calls.specs.declared.plan.Plan.{Plan}
 
--- 32n + 64 + G² numbers
-abbrev pub roomOf : Plan → ℕ
-roomOf p = p .n * 32 + 64 + p .side * p .side
+-- ---- the places
+
+-- joint j has 32 numbers: its frame (7), then its composite (13)
+abbrev pub framePlace : ℕ → ℕ
+framePlace j = j * 32
+
+abbrev pub compositePlace : ℕ → ℕ
+compositePlace j = j * 32 + 7
+
+-- behind the joints the root has 64: a floating root's composite (13)
+abbrev pub rootPlace : ℕ → ℕ
+rootPlace n = n * 32
+
+-- behind them stands the matrix, column by column
+abbrev pub matrixPlace : ℕ → ℕ
+matrixPlace n = n * 32 + 64
 
 abbrev pub placeOf : Plan → ℕ → ℕ → ℕ
-placeOf p row column = p .n * 32 + 64 + column * p .side + row
+placeOf p row column = matrixPlace (p .n) + column * p .side + row
+
+-- 32n + 64 + G² numbers
+abbrev pub roomOf : Plan → ℕ
+roomOf p = matrixPlace (p .n) + p .side * p .side
+
+-- ---- entries
 
 -- an entry and its mirror
 unfoldable pub putPair : Plan → ℕ → ℕ → Float → List Float → List Float

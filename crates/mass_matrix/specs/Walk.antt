@@ -1,7 +1,7 @@
 -- The walk of one column: "going from a joint to its parent until the root is reached". Definitions only.
 use mathlib.Core.Bool.{cond}
 use mathlib.Core.List.{List}
-use Prim.Native.Nat.{ℕ, zero, suc, _+_, _-_, _*_}
+use Prim.Native.Nat.{ℕ, zero, suc, _+_, _-_}
 use lib.Dec.{eqb}
 use lib.Ieee.{Float}
 use Rattle.numbers.specs.Double.{0·0}
@@ -9,12 +9,11 @@ use Rattle.numbers.specs.Vec3.{dotOf}
 use Rattle.spatial.specs.Operators.{wrenchToParent}
 use Rattle.spatial.specs.declared.wrench.Wrench.{Wrench}
 use Rattle.slots.specs.Slots.{frameAt}
-use Rattle.arm.specs.Joint.{isFixed}
-use Rattle.arm.specs.Model.{parentOf, kindOf, motionOf}
+use Rattle.arm.specs.Model.{parentOf, motionOf}
 use Rattle.arm.specs.Topology.{activesOf}
 use Rattle.arm.specs.declared.joint.Motion.{Motion}
 use Rattle.arm.specs.declared.joint.Motion.the-variants.{Turn, Slide, Fixed}
-use Rattle.mass_matrix.specs.Plan.{putPair}
+use Rattle.mass_matrix.specs.Plan.{framePlace, putPair}
 use Rattle.calls.specs.declared.plan.Plan.{Plan}
 
 -- S·F, what a wrench gives along a motion
@@ -23,15 +22,22 @@ entryOf (Turn axis) w = dotOf axis (w .torque)
 entryOf (Slide axis) w = dotOf axis (w .force)
 entryOf Fixed w = 0·0
 
--- joint j's entry in a column and its mirror; nothing for a fixed joint
-unfoldable pub putEntry : Plan → List ℕ → ℕ → ℕ → Float → List Float → List Float
-putEntry p kinds column j entry ws = cond (isFixed (kindOf kinds j)) ws (putPair p (p .lead + activesOf kinds j) column entry ws)
+-- a joint's entry in a column and its mirror; nothing for a fixed joint
+unfoldable pub putEntry : Plan → Motion → ℕ → ℕ → Float → List Float → List Float
+putEntry p (Turn axis) row column entry ws = putPair p row column entry ws
+putEntry p (Slide axis) row column entry ws = putPair p row column entry ws
+putEntry p Fixed row column entry ws = ws
+
+-- joint j's, from the wrench that has come to it
+abbrev pub putHere : Plan → List ℕ → List Float → ℕ → ℕ → Wrench → List Float → List Float
+putHere p kinds axes column j w ws =
+    putEntry p (motionOf kinds axes j) (p .lead + activesOf kinds j) column (entryOf (motionOf kinds axes j) w) ws
 
 -- one joint of the walk: its entry is written, and the wrench is carried to its parent
 unfoldable pub walkStep : Plan → List ℕ → List Float → ℕ → ℕ → Wrench × List Float → Wrench × List Float
 walkStep p kinds axes column j s =
-    let ws = putEntry p kinds column j (entryOf (motionOf kinds axes j) (s .0)) (s .1) in
-    (wrenchToParent (frameAt ws (j * 32)) (s .0), ws)
+    let ws = putHere p kinds axes column j (s .0) (s .1) in
+    (wrenchToParent (frameAt ws (framePlace j)) (s .0), ws)
 
 -- `act` at j, then at the joint of the link `up j`, until that is the root; at most k joints
 unfoldable pub climb : {S : Type 0} → (ℕ → ℕ) → (ℕ → S → S) → ℕ → ℕ → S → S

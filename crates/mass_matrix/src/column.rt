@@ -3,8 +3,8 @@ ghost use mathlib.Core.Path.{_≡_};
 ghost use Rattle.mass_matrix.specs.Column.{badColumn, columnOf};
 
 // 25.
-fn bad_column(side: usize, column: usize, length: usize) -> bool
-    ensures { λ r. ⌜ r ≡ badColumn side column length ⌝ }
+fn bad_column(side: usize, column: usize, count: usize) -> bool
+    ensures { λ r. ⌜ r ≡ badColumn side column count ⌝ }
 {
     if side == 0 {
         return true;
@@ -12,7 +12,7 @@ fn bad_column(side: usize, column: usize, length: usize) -> bool
     if 38 < side {
         return true;
     }
-    if length != side * side {
+    if count != side * side {
         return true;
     }
     side <= column

@@ -1,15 +1,14 @@
 // The visits: frames rising, composites falling, active columns rising, the root.
 ghost use mathlib.Core.Path.{_≡_};
-ghost use Prim.Native.Nat.{_+_, _*_, _-_, _≤_, _<_};
+ghost use Prim.Native.Nat.{_+_, _≤_, _<_};
 ghost use lib.ListN.{length, take, drop};
 ghost use Rattle.numbers.specs.Double.{allFinite};
 ghost use Rattle.slots.specs.Slots.{putWrench};
 ghost use Rattle.arm.specs.Model.{bundle, Tree, kindOf, parentOf};
-ghost use Rattle.arm.specs.Topology.{activesOf, activeNumbers};
-ghost use Rattle.refusals.specs.Refusals.{scan};
+ghost use Rattle.arm.specs.Topology.{activesOf, activeJoint};
 ghost use Rattle.calls.specs.Plan.{Fit};
-ghost use Rattle.mass_matrix.specs.Plan.{Room, placeOf};
-ghost use Rattle.mass_matrix.specs.Kernel.{begunOf, frameVisit, addInto, compositeVisit, holdsOf, columnVisit, columnFound, worldAxis, loadOf, loadsTo, rootColumns, tested, rootVisit, jointVisit, visitOf};
+ghost use Rattle.mass_matrix.specs.Plan.{compositePlace, Room, placeOf};
+ghost use Rattle.mass_matrix.specs.Kernel.{begunOf, frameVisit, addInto, compositeVisit, columnVisit, columnFound, worldAxis, baseLoad, baseLoadsTo, rootColumns, tested, rootVisit, jointVisit, visitOf};
 use crate::composite;
 use crate::plan;
 use crate::walk;
@@ -36,12 +35,12 @@ fn begin(p: Plan, links: &[f64; 330], ws: &mut [f64], at: usize)
     if at != 0 {
         return;
     }
-    slots::zero_part(ws, n * 32 + 64, side * side);
+    slots::zero_part(ws, n * plan::JOINT + plan::ROOT, side * side);
     if lead == 0 {
         return;
     }
     let root = model::link_at(links, 0);
-    composite::put_composite(ws, n * 32, root);
+    composite::put_composite(ws, n * plan::JOINT, root);
 }
 
 // Joint j's frame, and its own link as the start of its composite.
@@ -62,22 +61,22 @@ fn frame_visit<'a>(
 {
     let n = p.n;
     let joint = model::joint_at(n, parents, kinds, origins, axes, j);
-    let value = topology::value_at(kinds, numbers, q, n, j);
     let origin = joint.origin;
     let motion = joint.motion;
+    let value = topology::value_of(motion, kinds, numbers, q, n, j);
     let frame = joint::frame(origin, motion, value);
-    slots::put_frame(ws, j * 32, frame);
+    slots::put_frame(ws, j * plan::JOINT, frame);
     let link = model::link_at(links, j + 1);
-    composite::put_composite(ws, j * 32 + 7, link);
+    composite::put_composite(ws, j * plan::JOINT + plan::COMPOSITE, link);
 }
 
 // Joint j's composite is added to the one at a place.
 fn add_into(ws: &mut [f64], at: usize, j: usize)
-    requires { ⌜ (j < 32) × (j * 32 + 32 ≤ length (now ws)) × (at + 13 ≤ length (now ws)) ⌝ }
+    requires { ⌜ (j < 32) × (compositePlace j + 13 ≤ length (now ws)) × (at + 13 ≤ length (now ws)) ⌝ }
     ensures { λ _. ⌜ now (ws .exit) ≡ addInto at j (now (ws .entry)) ⌝ }
 {
-    let f = slots::frame_at(ws, j * 32);
-    let c = composite::composite_at(ws, j * 32 + 7);
+    let f = slots::frame_at(ws, j * plan::JOINT);
+    let c = composite::composite_at(ws, j * plan::JOINT + plan::COMPOSITE);
     let moved = composite::to_parent(c, f);
     let old = composite::composite_at(ws, at);
     let sum = composite::joined(old, moved);
@@ -96,10 +95,10 @@ fn composite_visit(p: Plan, parents: &[u8; 32], ws: &mut [f64], j: usize)
         if lead == 0 {
             return;
         }
-        add_into(ws, n * 32, j);
+        add_into(ws, n * plan::JOINT, j);
         return;
     }
-    add_into(ws, (parent - 1) * 32 + 7, j);
+    add_into(ws, (parent - 1) * plan::JOINT + plan::COMPOSITE, j);
 }
 
 // The column of active joint j: the walk, and the base's rows where it floats.
@@ -118,7 +117,7 @@ fn column_visit<'a>(
 {
     let column = plan::row_of(p, parents, kinds, numbers, j);
     let motion = model::motion_at(kinds, axes, j);
-    let c = composite::composite_at(ws, j * 32 + 7);
+    let c = composite::composite_at(ws, j * plan::JOINT + plan::COMPOSITE);
     let force = composite::force(motion, c);
     let t = force.torque;
     let f = force.force;
@@ -141,34 +140,6 @@ fn column_visit<'a>(
     );
 }
 
-// Joint j is active and has active number k.
-fn holds_at<'a>(kinds: &'a [u8; 32], numbers: &'a [u8; 33], j: usize, k: usize) -> bool
-    requires { ⌜ (now numbers ≡ activeNumbers (now kinds)) × (j < 32) ⌝ }
-    ensures { λ r. ⌜ r ≡ holdsOf (now (kinds .entry)) k j ⌝ }
-{
-    let kind = kinds[j];
-    if kind == 2 {
-        return false;
-    }
-    let a = topology::number_at(kinds, numbers, j);
-    a == k
-}
-
-// The joint with active number k, which is not below k.
-fn active_joint<'a>(kinds: &'a [u8; 32], numbers: &'a [u8; 33], n: usize, k: usize) -> Place
-    requires { ⌜ (now numbers ≡ activeNumbers (now kinds)) × (n ≤ 32) × (k ≤ n) ⌝ }
-    ensures { λ r. ⌜ r ≡ scan (holdsOf (now (kinds .entry)) k) (n - k) k ⌝ }
-{
-    let mut i = k;
-    while i < n {
-        if holds_at(kinds, numbers, i, k) {
-            return Place::At(i);
-        }
-        i += 1;
-    }
-    Place::Nothing
-}
-
 // The column of active number k.
 fn active_column<'a>(
     p: Plan,
@@ -181,10 +152,10 @@ fn active_column<'a>(
     k: usize,
 )
     requires { ⌜ Fit p (now parents) (now kinds) (now numbers) × Room p (length (now ws)) × (k ≤ p .n) ⌝ }
-    ensures { λ _. ⌜ now (ws .exit) ≡ columnFound p r (now (parents .entry)) (now (kinds .entry)) (now (axes .entry)) (scan (holdsOf (now (kinds .entry)) k) (p .n - k) k) (now (ws .entry)) ⌝ }
+    ensures { λ _. ⌜ now (ws .exit) ≡ columnFound p r (now (parents .entry)) (now (kinds .entry)) (now (axes .entry)) (activeJoint (now (kinds .entry)) (p .n) k) (now (ws .entry)) ⌝ }
 {
     let n = p.n;
-    let found = active_joint(kinds, numbers, n, k);
+    let found = topology::active_joint(kinds, numbers, n, k);
     match found {
         Place::At(j) => column_visit(p, r, parents, kinds, axes, numbers, ws, j),
         Place::Nothing => {}
@@ -216,8 +187,8 @@ fn world_axis(k: usize) -> Vec3
 }
 
 // What moves the whole arm along base direction k, in the world.
-fn load(r: Quaternion, root: Link, k: usize) -> Wrench
-    ensures { λ w. ⌜ w ≡ loadOf r root k ⌝ }
+fn base_load(r: Quaternion, root: Link, k: usize) -> Wrench
+    ensures { λ w. ⌜ w ≡ baseLoad r root k ⌝ }
 {
     let axis = r.inverse().rotate(world_axis(k % 3));
     if k < 3 {
@@ -228,15 +199,15 @@ fn load(r: Quaternion, root: Link, k: usize) -> Wrench
 
 fn base_column(p: Plan, r: Quaternion, root: Link, ws: &mut [f64], k: usize)
     requires { ⌜ Room p (length (now ws)) × (6 ≤ p .side) × (k < 6) ⌝ }
-    ensures { λ _. ⌜ now (ws .exit) ≡ putWrench (now (ws .entry)) (placeOf p 0 k) (loadOf r root k) ⌝ }
+    ensures { λ _. ⌜ now (ws .exit) ≡ putWrench (now (ws .entry)) (placeOf p 0 k) (baseLoad r root k) ⌝ }
 {
-    let w = load(r, root, k);
+    let w = base_load(r, root, k);
     plan::write_wrench_to_column(p, ws, k, w);
 }
 
 fn base_columns(p: Plan, r: Quaternion, root: Link, ws: &mut [f64])
     requires { ⌜ Room p (length (now ws)) × (6 ≤ p .side) ⌝ }
-    ensures { λ _. ⌜ now (ws .exit) ≡ loadsTo p r root 6 (now (ws .entry)) ⌝ }
+    ensures { λ _. ⌜ now (ws .exit) ≡ baseLoadsTo p r root 6 (now (ws .entry)) ⌝ }
 {
     let mut k: usize = 0;
     while k < 6 {
@@ -255,7 +226,7 @@ fn root_columns(p: Plan, r: Quaternion, ws: &mut [f64])
     if lead == 0 {
         return;
     }
-    let root = composite::composite_at(ws, n * 32);
+    let root = composite::composite_at(ws, n * plan::JOINT);
     base_columns(p, r, root, ws);
 }
 
@@ -275,7 +246,7 @@ fn test(p: Plan, ws: &[f64]) -> Outcome
 {
     let n = p.n;
     let side = p.side;
-    if finite_part(ws, n * 32 + 64, side * side) {
+    if finite_part(ws, n * plan::JOINT + plan::ROOT, side * side) {
         return Outcome::Accepted;
     }
     Outcome::Refused(37, Place::Nothing)

@@ -1,15 +1,17 @@
 // The public calls: start, portion and the undivided call, each on a fixed and on a floating root.
 ghost use mathlib.Core.Bool.{true, false};
 ghost use mathlib.Core.Path.{_≡_};
-ghost use Prim.Native.Nat.{_+_, _*_, _≤_};
+ghost use Prim.Native.Nat.{_≤_};
 ghost use lib.ListN.{length};
 ghost use Rattle.arm.specs.Model.{bundle};
 ghost use Rattle.arm.specs.Topology.{activesOf, activeNumbers};
 ghost use Rattle.calls.specs.Position.{positionVerdict, landed, stepBy, iterate, opening, startOf, portionOf, wholeOf};
 ghost use Rattle.refusals.specs.Refusals.{orElse};
 ghost use Rattle.mass_matrix.specs.Kernel.{visitOf};
+ghost use Rattle.mass_matrix.specs.Plan.{matrixPlace};
 ghost use Rattle.mass_matrix.specs.MassMatrix.{floats, rotationOf, restVerdict, inputsVerdict, massMatrix, Ready, Within};
 use crate::kernel;
+use crate::plan as places;
 use arm::model;
 use arm::model::Model;
 use arm::topology;
@@ -102,7 +104,7 @@ fn judged<'a>(
     let a = topology::number_at(kinds, numbers, n);
     let p = plan::planned(floating, n, a);
     let side = p.side;
-    if ws < n * 32 + 64 + side * side {
+    if ws < n * places::JOINT + places::ROOT + side * side {
         return Verdict::Refused(10, Place::Nothing);
     }
     let values = checks::check_values(11, 12, kinds, numbers, n, a, q);
@@ -128,7 +130,7 @@ fn step<'a>(
     s: Position,
 ) -> Progress
     requires { ⌜ Ready p (now parents) (now kinds) (now numbers) (length (now q)) (length (now ws)) (length (now out)) × Within p s × (s .closed ≡ false) ⌝ }
-    ensures { λ t. ⌜ ((t, now (ws .exit), now (out .exit)) ≡ landed (p .n * 32 + 64) (opening s, now (ws .entry), now (out .entry)) (visitOf p r (bundle (p .n) (now (parents .entry)) (now (kinds .entry)) (now (origins .entry)) (now (axes .entry)) (now (links .entry))) (now (q .entry)) (s .visits) (now (ws .entry)))) × Within p (t .position) ⌝ }
+    ensures { λ t. ⌜ ((t, now (ws .exit), now (out .exit)) ≡ landed (matrixPlace (p .n)) (opening s, now (ws .entry), now (out .entry)) (visitOf p r (bundle (p .n) (now (parents .entry)) (now (kinds .entry)) (now (origins .entry)) (now (axes .entry)) (now (links .entry))) (now (q .entry)) (s .visits) (now (ws .entry)))) × Within p (t .position) ⌝ }
 {
     let n = p.n;
     let at = s.visits;
@@ -145,7 +147,7 @@ fn step<'a>(
         ws,
         at,
     );
-    position::close(o, ws, out, n * 32 + 64);
+    position::close(o, ws, out, n * places::JOINT + places::ROOT);
     s.advanced(o)
 }
 
@@ -166,7 +168,7 @@ fn run<'a>(
     budget: usize,
 ) -> Progress
     requires { ⌜ Ready p (now parents) (now kinds) (now numbers) (length (now q)) (length (now ws)) (length (now out)) × Within p from ⌝ }
-    ensures { λ t. ⌜ (t, now (ws .exit), now (out .exit)) ≡ iterate (stepBy (visitOf p r (bundle (p .n) (now (parents .entry)) (now (kinds .entry)) (now (origins .entry)) (now (axes .entry)) (now (links .entry))) (now (q .entry))) (p .n * 32 + 64)) budget (opening from, now (ws .entry), now (out .entry)) ⌝ }
+    ensures { λ t. ⌜ ((t, now (ws .exit), now (out .exit)) ≡ iterate (stepBy (visitOf p r (bundle (p .n) (now (parents .entry)) (now (kinds .entry)) (now (origins .entry)) (now (axes .entry)) (now (links .entry))) (now (q .entry))) (matrixPlace (p .n))) budget (opening from, now (ws .entry), now (out .entry))) × (from .visits ≤ t .position .visits) ⌝ }
 {
     let mut s = Progress {
         position: from,

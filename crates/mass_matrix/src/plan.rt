@@ -1,24 +1,33 @@
-// Where a matrix's entries stand in the workspace.
+// The workspace's places, and the entries of the matrix in it.
 ghost use mathlib.Core.Path.{_≡_};
-ghost use Prim.Native.Nat.{_+_, _*_, _≤_, _<_};
+ghost use Prim.Native.Nat.{_+_, _≤_, _<_};
 ghost use lib.ListN.{length};
 ghost use Rattle.arm.specs.Model.{kindOf};
 ghost use Rattle.slots.specs.Slots.{putWrench};
 ghost use Rattle.arm.specs.Topology.{activesOf};
 ghost use Rattle.calls.specs.Plan.{Fit};
-ghost use Rattle.mass_matrix.specs.Plan.{Room, placeOf, putPair, putSix};
+ghost use Rattle.mass_matrix.specs.Plan.{Room, roomOf, placeOf, putPair, putSix};
 use arm::topology;
 use calls::plan::Plan;
 use spatial::wrench::Wrench;
 
-// The place of a row and a column, column by column.
+// A joint's numbers: its frame, then its composite.
+pub const JOINT: usize = 32;
+
+// A frame's, so where the composite stands among them.
+pub const COMPOSITE: usize = 7;
+
+// The root's, behind the joints; the matrix stands behind them.
+pub const ROOT: usize = 64;
+
+// The place of a row and a column: column by column, behind the root's numbers.
 fn place(p: Plan, row: usize, column: usize) -> usize
     requires { ⌜ (p .n ≤ 32) × (p .side ≤ 38) × (row < p .side) × (column < p .side) ⌝ }
-    ensures { λ r. ⌜ (r ≡ placeOf p row column) × (r < p .n * 32 + 64 + p .side * p .side) ⌝ }
+    ensures { λ r. ⌜ (r ≡ placeOf p row column) × (r < roomOf p) ⌝ }
 {
     let n = p.n;
     let side = p.side;
-    n * 32 + 64 + column * side + row
+    n * JOINT + ROOT + column * side + row
 }
 
 // The matrix row of an active joint.

@@ -1,14 +1,16 @@
 // The walk of one column: from a joint to its parent until the root is reached.
 ghost use mathlib.Core.Path.{_≡_};
-ghost use Prim.Native.Nat.{_+_, _*_, _≤_, _<_};
+ghost use Prim.Native.Nat.{_+_, _≤_, _<_};
 ghost use lib.ListN.{length};
 ghost use Rattle.spatial.specs.Operators.{wrenchToParent};
 ghost use Rattle.spatial.specs.Wrench.{rotatedOf};
 ghost use Rattle.slots.specs.Slots.{frameAt};
-ghost use Rattle.arm.specs.Model.{motionOf};
+ghost use Rattle.arm.specs.Joint.{kindNumber};
+ghost use Rattle.arm.specs.Model.{kindOf};
+ghost use Rattle.arm.specs.Topology.{activesOf};
 ghost use Rattle.calls.specs.Plan.{Fit};
-ghost use Rattle.mass_matrix.specs.Plan.{Room, putSix};
-ghost use Rattle.mass_matrix.specs.Walk.{entryOf, putEntry, walkOf};
+ghost use Rattle.mass_matrix.specs.Plan.{framePlace, Room, putPair, putSix};
+ghost use Rattle.mass_matrix.specs.Walk.{entryOf, putEntry, putHere, walkOf};
 ghost use Rattle.mass_matrix.specs.Kernel.{baseRows};
 use crate::plan;
 use arm::joint::Motion;
@@ -30,8 +32,8 @@ fn entry(motion: Motion, w: Wrench) -> f64
     }
 }
 
-// Joint j's entry in a column, and its mirror; nothing for a fixed joint.
-fn put_entry<'a>(
+// An active joint's entry in a column, and its mirror.
+fn put_active<'a>(
     p: Plan,
     parents: &'a [u8; 32],
     kinds: &'a [u8; 32],
@@ -41,15 +43,33 @@ fn put_entry<'a>(
     column: usize,
     entry: f64,
 )
-    requires { ⌜ Fit p (now parents) (now kinds) (now numbers) × Room p (length (now ws)) × (j < p .n) × (column < p .side) ⌝ }
-    ensures { λ _. ⌜ now (ws .exit) ≡ putEntry p (now (kinds .entry)) column j entry (now (ws .entry)) ⌝ }
+    requires { ⌜ Fit p (now parents) (now kinds) (now numbers) × Room p (length (now ws)) × (j < p .n) × (column < p .side) × (kindOf (now kinds) j ≡ 2 → ⊥) ⌝ }
+    ensures { λ _. ⌜ now (ws .exit) ≡ putPair p (p .lead + activesOf (now (kinds .entry)) j) column entry (now (ws .entry)) ⌝ }
 {
-    let kind = kinds[j];
-    if kind == 2 {
-        return;
-    }
     let row = plan::row_of(p, parents, kinds, numbers, j);
     plan::put_pair(p, ws, row, column, entry);
+}
+
+// Joint j's entry in a column, and its mirror; nothing for a fixed joint.
+fn put_entry<'a>(
+    p: Plan,
+    motion: Motion,
+    parents: &'a [u8; 32],
+    kinds: &'a [u8; 32],
+    numbers: &'a [u8; 33],
+    ws: &mut [f64],
+    j: usize,
+    column: usize,
+    entry: f64,
+)
+    requires { ⌜ Fit p (now parents) (now kinds) (now numbers) × Room p (length (now ws)) × (j < p .n) × (column < p .side) × (kindNumber motion ≡ kindOf (now kinds) j) ⌝ }
+    ensures { λ _. ⌜ now (ws .exit) ≡ putEntry p motion (p .lead + activesOf (now (kinds .entry)) j) column entry (now (ws .entry)) ⌝ }
+{
+    match motion {
+        Motion::Turn(_) => put_active(p, parents, kinds, numbers, ws, j, column, entry),
+        Motion::Slide(_) => put_active(p, parents, kinds, numbers, ws, j, column, entry),
+        Motion::Fixed => {}
+    }
 }
 
 // Joint j's entry from the wrench that has come to it.
@@ -65,19 +85,19 @@ fn put_here<'a>(
     column: usize,
 )
     requires { ⌜ Fit p (now parents) (now kinds) (now numbers) × Room p (length (now ws)) × (j < p .n) × (column < p .side) ⌝ }
-    ensures { λ _. ⌜ now (ws .exit) ≡ putEntry p (now (kinds .entry)) column j (entryOf (motionOf (now (kinds .entry)) (now (axes .entry)) j) w) (now (ws .entry)) ⌝ }
+    ensures { λ _. ⌜ now (ws .exit) ≡ putHere p (now (kinds .entry)) (now (axes .entry)) column j w (now (ws .entry)) ⌝ }
 {
     let motion = model::motion_at(kinds, axes, j);
     let e = entry(motion, w);
-    put_entry(p, parents, kinds, numbers, ws, j, column, e);
+    put_entry(p, motion, parents, kinds, numbers, ws, j, column, e);
 }
 
 // A wrench carried from joint j to its parent.
 fn carried(ws: &[f64], j: usize, w: Wrench) -> Wrench
-    requires { ⌜ (j < 32) × (j * 32 + 7 ≤ length (now ws)) ⌝ }
-    ensures { λ r. ⌜ r ≡ wrenchToParent (frameAt (now (ws .entry)) (j * 32)) w ⌝ }
+    requires { ⌜ (j < 32) × (framePlace j + 7 ≤ length (now ws)) ⌝ }
+    ensures { λ r. ⌜ r ≡ wrenchToParent (frameAt (now (ws .entry)) (framePlace j)) w ⌝ }
 {
-    let f = slots::frame_at(ws, j * 32);
+    let f = slots::frame_at(ws, j * plan::JOINT);
     operators::wrench_to_parent(f, w)
 }
 

@@ -26,6 +26,7 @@ use Rattle.calls.specs.Plan.{planBy}
 use Rattle.mass_matrix.specs.MassMatrix.{restVerdict, inputsVerdict, floats, rotationOf, massMatrix}
 use Rattle.mass_matrix.specs.declared.mass_matrix.Mode.{Mode}
 use Rattle.calls.specs.declared.plan.Plan.{Plan}
+use Rattle.mass_matrix.specs.Plan.{matrixPlace}
 
 -- ---- the checks to 22, at each way out
 
@@ -35,11 +36,11 @@ module _ (floating : Bool) (r : Quaternion) (n : ℕ) (parents kinds : List ℕ)
   refuses-9 h = rw (← e9, h)
 
   module _ (a : ℕ) (p : Plan) (tame : wild ≡ false) (ea : a ≡ activesOf kinds n) (ep : p ≡ planBy floating n a) where
-    pub refuses-10 : ws < n * 32 + 64 + p .side * p .side → Refused 10 Nothing ≡ inputsVerdict floating r n parents kinds q ws out
+    pub refuses-10 : ws < matrixPlace n + p .side * p .side → Refused 10 Nothing ≡ inputsVerdict floating r n parents kinds q ws out
     unfolding inputsVerdict plainOf orElse
     refuses-10 h = rw (← e9, tame, ← ea, ← ep, lt-ltb _ _ h)
 
-    module _ (v : Verdict) (room : n * 32 + 64 + p .side * p .side ≤ ws) (ev : v ≡ valuesVerdict 11 12 kinds n q) where
+    module _ (v : Verdict) (room : matrixPlace n + p .side * p .side ≤ ws) (ev : v ≡ valuesVerdict 11 12 kinds n q) where
       pub refuses-values : (number : ℕ) (i : Place) → v ≡ Refused number i → v ≡ inputsVerdict floating r n parents kinds q ws out
       unfolding inputsVerdict plainOf orElse
       refuses-values number i h = rw (← e9, tame, ← ea, ← ep, le-ltb _ _ room, ← ev, h)
@@ -75,7 +76,7 @@ module _ (mode : Mode) (m : Model) (q ws out : List Float) (floating : Bool) (r 
   portion-refused budget p v number i t ev h et = rw (← ef, ← er, ← ev, h, et)
 
   -- what a run gave
-  module _ (a : ℕ) (plan : Plan) (p : Position) (s : Progress) (t : Answer) (ws′ out′ : List Float) (ea : a ≡ activesOf (m .kinds) (m .n)) (epl : plan ≡ planBy floating (m .n) a) (et : t ≡ answerBy p s) where
+  module _ (a : ℕ) (plan : Plan) (p : Position) (s : Progress) (t : Answer) (ws′ out′ : List Float) (ea : a ≡ activesOf (m .kinds) (m .n)) (epl : plan ≡ planBy floating (m .n) a) where
     -- the model, as it was lent
     abbrev lent : Model
     lent = bundle (plan .n) (m .parents) (m .kinds) (m .origins) (m .axes) (m .links)
@@ -85,17 +86,19 @@ module _ (mode : Mode) (m : Model) (q ws out : List Float) (floating : Bool) (r 
     lent-is = ap (λ (k : Plan). bundle (k .n) (m .parents) (m .kinds) (m .origins) (m .axes) (m .links)) epl
 
     pub portion-fine : (budget : ℕ) (v : Verdict) → v ≡ orElse inputs (positionVerdict true floating (m .n) (activesOf (m .kinds) (m .n)) p) → v ≡ Fine
-        → (s, ws′, out′) ≡ iterate (stepBy (visitOf plan r lent q) (plan .n * 32 + 64)) budget (opening p, ws, out)
+        → (s, ws′, out′) ≡ iterate (stepBy (visitOf plan r lent q) (matrixPlace (plan .n))) budget (opening p, ws, out)
+        → t ≡ answerBy p s
         → (t, ws′, out′) ≡ portionOf (massMatrix mode m q) budget p ws out
     unfolding portionOf massMatrix
-    portion-fine budget v ev h es =
-        let run = es ∙ ap (λ (k : Model). iterate (stepBy (visitOf plan r k q) (plan .n * 32 + 64)) budget (opening p, ws, out)) lent-is in
+    portion-fine budget v ev h es et =
+        let run = es ∙ ap (λ (k : Model). iterate (stepBy (visitOf plan r k q) (matrixPlace (plan .n))) budget (opening p, ws, out)) lent-is in
         rw (← ef, ← er, ← ev, h, ← ea, ← epl, ← run, et)
 
     pub whole-fine : (all : ℕ) (v : Verdict) (ws₁ : List Float) → v ≡ inputs → v ≡ Fine → p ≡ freshAt true floating (m .n) a → all ≡ visitsOf true (m .n) a → ws₁ ≡ cleared ws
-        → (s, ws′, out′) ≡ iterate (stepBy (visitOf plan r lent q) (plan .n * 32 + 64)) all (opening p, ws₁, out)
+        → (s, ws′, out′) ≡ iterate (stepBy (visitOf plan r lent q) (matrixPlace (plan .n))) all (opening p, ws₁, out)
+        → t ≡ answerBy p s
         → (t, ws′, out′) ≡ wholeOf (massMatrix mode m q) ws out
     unfolding wholeOf massMatrix
-    whole-fine all v ws₁ ev h ep el ew es =
-        let run = es ∙ ap (λ (k : Model). iterate (stepBy (visitOf plan r k q) (plan .n * 32 + 64)) all (opening p, ws₁, out)) lent-is in
+    whole-fine all v ws₁ ev h ep el ew es et =
+        let run = es ∙ ap (λ (k : Model). iterate (stepBy (visitOf plan r k q) (matrixPlace (plan .n))) all (opening p, ws₁, out)) lent-is in
         rw (← ef, ← er, ← ev, h, ← ea, ← epl, ← el, ← ep, ← ew, ← run, et)

@@ -25,7 +25,7 @@ use Rattle.calls.specs.declared.position.Progress.{Progress}
 use Rattle.calls.proofs.Passed.{tame, not-short, as-wanted, counted, still-open}
 use Rattle.mass_matrix.specs.Kernel.{tested, rootVisit, visitOf, begunOf, rootColumns}
 use Rattle.calls.specs.Plan.{planBy, planOf, Fit}
-use Rattle.mass_matrix.specs.Plan.{Room}
+use Rattle.mass_matrix.specs.Plan.{matrixPlace, Room}
 use Rattle.mass_matrix.specs.MassMatrix.{restVerdict, inputsVerdict, Ready, Within}
 use Rattle.calls.specs.declared.plan.Plan.{Plan}
 
@@ -44,7 +44,7 @@ module _ (floating : Bool) (n : ℕ) (parents kinds numbers : List ℕ) (good : 
   unfolding planBy
   fits = record { good = good; counted = e; led = lead-small floating; whole = lead-whole floating; sided = refl }
 
-  pub roomy : (ws : ℕ) → n * 32 + 64 + planOf floating n kinds .side * planOf floating n kinds .side ≤ ws → Room (planOf floating n kinds) ws
+  pub roomy : (ws : ℕ) → matrixPlace n + planOf floating n kinds .side * planOf floating n kinds .side ≤ ws → Room (planOf floating n kinds) ws
   unfolding planBy
   roomy ws h = record { few = good .tree .few; small = omega (arith, lead-small floating, actives-le kinds n, good .tree .few); room = h }
 
@@ -62,7 +62,7 @@ module _ (floating : Bool) (r : Quaternion) (n : ℕ) (parents kinds numbers : L
       let side = planOf floating n kinds .side in
       record {
         fit = fits floating n parents kinds numbers passed-good e;
-        room = roomy floating n parents kinds numbers passed-good e ws (not-short 10 ws (n * 32 + 64 + side * side) (a .0));
+        room = roomy floating n parents kinds numbers passed-good e ws (not-short 10 ws (matrixPlace n + side * side) (a .0));
         values = counted 11 12 kinds n q (b .0);
         output = as-wanted 17 out (side * side) (d .0);
       }
@@ -88,7 +88,7 @@ module _ (floating : Bool) (n a : ℕ) (plan : Plan) (p : Position) (epl : plan 
 
 tested-ends : (p : Plan) (ws : List Float) → ended (tested p ws) ≡ true
 unfolding tested ended
-tested-ends p ws = go (allFinite (take (p .side * p .side) (drop (p .n * 32 + 64) ws)))
+tested-ends p ws = go (allFinite (take (p .side * p .side) (drop (matrixPlace (p .n)) ws)))
   where
     go : (b : Bool) → ended (cond b Accepted (Refused 37 Nothing)) ≡ true
     go true = refl

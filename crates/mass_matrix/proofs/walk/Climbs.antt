@@ -2,7 +2,7 @@
 use mathlib.Core.Bool.{Bool, true, false, cond}
 use mathlib.Core.List.{List}
 use mathlib.Core.Path.{_≡_, refl, sym, ap, _∙_}
-use Prim.Native.Nat.{ℕ, zero, suc, _-_, _*_, _≤_, _<_}
+use Prim.Native.Nat.{ℕ, zero, suc, _-_, _≤_, _<_}
 use native.Mathlib.Omega.{arith}
 use borrow.Author.Tests.{eqb-false, eq-eqb, ne-eqb}
 use lib.Dec.{eqb}
@@ -12,9 +12,9 @@ use Rattle.spatial.specs.Operators.{wrenchToParent}
 use Rattle.spatial.specs.Wrench.{rotatedOf}
 use Rattle.spatial.specs.declared.wrench.Wrench.{Wrench}
 use Rattle.slots.specs.Slots.{frameAt}
-use Rattle.arm.specs.Model.{parentOf, motionOf, Tree}
-use Rattle.mass_matrix.specs.Plan.{putSix}
-use Rattle.mass_matrix.specs.Walk.{entryOf, putEntry, walkStep, climb, walkOf}
+use Rattle.arm.specs.Model.{parentOf, Tree}
+use Rattle.mass_matrix.specs.Plan.{framePlace, putSix}
+use Rattle.mass_matrix.specs.Walk.{putHere, walkStep, climb, walkOf}
 use Rattle.mass_matrix.specs.Kernel.{baseRows}
 use Rattle.calls.specs.declared.plan.Plan.{Plan}
 
@@ -68,8 +68,8 @@ module _ (p : Plan) (r : Quaternion) (column : ℕ) (s : Wrench × List Float) w
   unfolding baseRows
   base-floats z = simp (ne-eqb (p .lead) 0 z)
 
-module _ (p : Plan) (r : Quaternion) (parents kinds : List ℕ) (axes : List Float) (column j : ℕ) (w : Wrench) (ws : List Float) {put : List Float} (e : put ≡ putEntry p kinds column j (entryOf (motionOf kinds axes j) w) ws) where
-  stepped : (wrenchToParent (frameAt put (j * 32)) w, put) ≡ walkStep p kinds axes column j (w, ws)
+module _ (p : Plan) (r : Quaternion) (parents kinds : List ℕ) (axes : List Float) (column j : ℕ) (w : Wrench) (ws : List Float) {put : List Float} (e : put ≡ putHere p kinds axes column j w ws) where
+  stepped : (wrenchToParent (frameAt put (framePlace j)) w, put) ≡ walkStep p kinds axes column j (w, ws)
   unfolding walkStep
   stepped = rw e
 
@@ -77,7 +77,7 @@ module _ (p : Plan) (r : Quaternion) (parents kinds : List ℕ) (axes : List Flo
   pub rows-fixed : parentOf parents j ≡ 0 → p .lead ≡ 0 → put ≡ baseRows p r column (walkOf p parents kinds axes column j (w, ws))
   rows-fixed z l = base-fixed p r column _ l ∙ ap (baseRows p r column) (walk-ends p parents kinds axes column j (w, ws) _ stepped z)
 
-  module _ {up : Wrench} (f : up ≡ wrenchToParent (frameAt put (j * 32)) w) where
+  module _ {up : Wrench} (f : up ≡ wrenchToParent (frameAt put (framePlace j)) w) where
     moved : (up, put) ≡ walkStep p kinds axes column j (w, ws)
     moved = rw f stepped
 

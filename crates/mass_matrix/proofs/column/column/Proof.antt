@@ -1,6 +1,7 @@
-use mathlib.Core.Path.{_≡_, sym, _∙_}
-use Prim.Native.Nat.{_+_, _-_, _*_}
+use mathlib.Core.Path.{_≡_, sym, ap, _∙_}
+use Prim.Native.Nat.{ℕ, _+_, _-_, _*_}
 use native.Mathlib.Omega.{arith}
+use lib.ListN.{take, drop}
 use Rattle.mass_matrix.specs.Column.{columnOf}
 use borrow.Author.Needs.{needs}
 use Rattle.mass_matrix.proofs.column.Part.{inside}
@@ -43,7 +44,7 @@ part-result-end-2 c = let b1 = c .before in let b3 = b1 .before .before in let i
 
 returns-2 : tie.Need-returns-2
 unfolding columnOf
-returns-2 c = let b1 = c .before in let b2 = b1 .before in let b4 = b2 .before .before in let e : b4 .args .column * b4 .args .side + b4 .args .side - b4 .args .column * b4 .args .side ≡ b4 .args .side = omega arith in rw (← b2 .bad-column .ensures, b1 .if1 .left, e)
+returns-2 c = let b1 = c .before in let b2 = b1 .before in let b4 = b2 .before .before in let e : b4 .args .column * b4 .args .side + b4 .args .side - b4 .args .column * b4 .args .side ≡ b4 .args .side = omega arith in rw (← b2 .bad-column .ensures, b1 .if1 .left) (ap (λ (k : ℕ). take k (drop (b4 .args .column * b4 .args .side) (b4 .args .matrix .now))) e)
 
 pub column-spec : {M : Type 1} → statement M
 column-spec =

@@ -1,8 +1,6 @@
 use mathlib.Core.Path.{sym, _∙_}
-use Prim.Native.Nat.{_-_}
-use native.Mathlib.Omega.{arith}
-use Rattle.mass_matrix.specs.Kernel.{holdsOf, columnFound}
-use Rattle.mass_matrix.proofs.kernel.Columns.{scan-some, held}
+use Rattle.mass_matrix.specs.Kernel.{columnFound}
+use Rattle.arm.proofs.topology.Actives.{found-is}
 use borrow.Author.Needs.{needs}
 use Rattle.mass_matrix.proofs.kernel.active_column.Statement.{statement}
 use Rattle.mass_matrix.proofs.kernel.active_column.Tie as tie
@@ -14,7 +12,12 @@ enum-known-found : tie.Need-enum-known-found
 enum-known-found c = search needs
 
 column-visit-requires : tie.Need-column-visit-requires
-column-visit-requires c κs = let b2 = c .before .before in let b4 = b2 .before .before in let b6 = b4 .before .before in let s = scan-some (holdsOf (b6 .args .kinds .now) (b6 .args .k)) (b6 .args .p .n - b6 .args .k) (b6 .args .k) (b2 .found .given .0 .0) (sym (b4 .active-joint .ensures) ∙ b2 .found .given .1) in (b6 .pre .0, b6 .pre .1, omega (arith, s .1, b6 .pre .2), held (b6 .args .kinds .now) (b6 .args .k) (b2 .found .given .0 .0) (s .0))
+column-visit-requires c κs =
+    let b2 = c .before .before in
+    let b4 = b2 .before .before in
+    let b6 = b4 .before .before in
+    let s = found-is (b6 .args .kinds .now) (b6 .args .p .n) (b6 .args .k) (b2 .found .given .0 .0) (sym (b4 .active-joint .ensures) ∙ b2 .found .given .1) in
+    (b6 .pre .0, b6 .pre .1, s .joint, s .active)
 
 enum-told : tie.Need-enum-told
 enum-told c = search needs

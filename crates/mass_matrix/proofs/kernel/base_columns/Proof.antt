@@ -3,19 +3,19 @@ use Prim.Native.Nat.{_-_, _≤_}
 use native.Mathlib.Numerals.{add-one}
 use native.Mathlib.Omega.{arith}
 use lib.ListN.{length}
-use Rattle.mass_matrix.specs.Kernel.{loadsTo}
+use Rattle.mass_matrix.specs.Kernel.{baseLoadsTo}
 use borrow.Author.Needs.{needs}
 use Rattle.mass_matrix.proofs.kernel.base_columns.Statement.{statement}
 use Rattle.mass_matrix.proofs.kernel.base_columns.Tie as tie
 
 abbrev Inv-loop : tie.InvT-loop
-Inv-loop p r root ws₀ k₀ ws k = (k ≤ 6) × (length ws ≡ length ws₀) × (ws ≡ loadsTo p r root k ws₀)
+Inv-loop p r root ws₀ k₀ ws k = (k ≤ 6) × (length ws ≡ length ws₀) × (ws ≡ baseLoadsTo p r root k ws₀)
 
 abbrev μ-loop : tie.MeasureT-loop
 μ-loop p r root ws₀ k₀ ws k = 6 - k
 
 loop-holds : tie.Need-loop-holds Inv-loop μ-loop
-unfolding loadsTo
+unfolding baseLoadsTo
 loop-holds c = (search needs, refl, refl)
 
 base-column-requires : tie.Need-base-column-requires Inv-loop μ-loop
@@ -28,7 +28,7 @@ loop-less : tie.Need-loop-less Inv-loop μ-loop
 loop-less c = search needs
 
 loop-again : tie.Need-loop-again Inv-loop μ-loop
-unfolding loadsTo
+unfolding baseLoadsTo
 loop-again c = let b2 = c .before .before in let b5 = b2 .before .before .before in (search needs, search needs, rw (add-one (b5 .loop .k), b2 .base-column .ensures, b5 .loop .inv .2))
 
 same-length : tie.Need-same-length Inv-loop μ-loop

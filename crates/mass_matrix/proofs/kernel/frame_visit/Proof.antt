@@ -7,8 +7,8 @@ use Rattle.mass_matrix.proofs.kernel.frame_visit.Tie as tie
 joint-at-requires : tie.Need-joint-at-requires
 joint-at-requires c κs = search needs
 
-value-at-requires : tie.Need-value-at-requires
-value-at-requires c κs = search needs
+value-of-requires : tie.Need-value-of-requires
+value-of-requires c κs = search needs
 
 frame-requires : tie.Need-frame-requires
 frame-requires c κs = search needs
@@ -39,14 +39,14 @@ same-length c = search needs
 
 returns : tie.Need-returns
 unfolding frameVisit
-returns c = let b2 = c .before .before in let b4 = b2 .before .before in let b7 = b4 .before .before .before in let b9 = b7 .before .before in let b11 = b9 .before .before in let b12 = b11 .before in simp (b2 .put-composite .ensures, b4 .link-at .ensures, b7 .put-frame .ensures, b9 .frame .ensures, b11 .value-at .ensures, b12 .joint-at .ensures .0)
+returns c = let b2 = c .before .before in let b4 = b2 .before .before in let b7 = b4 .before .before .before in let b9 = b7 .before .before in let b10 = b9 .before in let b12 = b10 .before .before in simp (b2 .put-composite .ensures, b4 .link-at .ensures, b7 .put-frame .ensures, b9 .frame .ensures, b10 .value-of .ensures, b12 .joint-at .ensures .0)
 
 pub frame-visit-spec : {M : Type 1} → statement M
 frame-visit-spec =
     tie.close
     (tie.spec
     joint-at-requires
-    value-at-requires
+    value-of-requires
     frame-requires
     mul-put-frame
     put-frame-requires

@@ -1,11 +1,6 @@
 use mathlib.Core.Path.{sym, _∙_}
-use Prim.Native.Nat.{_+_, _*_}
 use lib.ListN.{length}
-use Rattle.arm.specs.Model.{bundle}
-use Rattle.mass_matrix.specs.Kernel.{visitOf}
 use borrow.Author.Needs.{needs}
-use Rattle.calls.specs.Position.{opening}
-use Rattle.calls.proofs.Steps.{run-forth}
 use Rattle.mass_matrix.specs.MassMatrix.{floats}
 use Rattle.mass_matrix.proofs.mass_matrix.Ready.{passed-good, few-actives, plan-ready, within-fresh}
 use Rattle.mass_matrix.proofs.mass_matrix.Glue.{whole-refused, whole-fine}
@@ -55,7 +50,7 @@ run-requires : tie.Need-run-requires
 run-requires c κs = let b11 = c .before .before .before .before .before .before .before .before .before .before .before in let b14 = b11 .before .before .before in let b15 = b14 .before in let b16 = b15 .before in let b20 = b16 .before .before .before .before in let b22 = b20 .before .before in let b27 = b22 .before .before .before .before .before in let b30 = b27 .before .before .before in let b31 = b30 .before in let b35 = b31 .before .before .before .before in (rw (b11 .clear .kept .0) (plan-ready (b31 .floats .result) (b30 .rotation .result) (b35 .args .t1 .n) (b35 .args .t1 .parents) (b35 .args .t1 .kinds) (b27 .active-numbers .result) (b35 .args .q .now) (length (b35 .args .ws .now)) (length (b35 .args .out .now)) (sym (b22 .judged .ensures) ∙ b20 .enum-told .given .1) _ (b16 .number-at .ensures) _ (b15 .planned .ensures .0) (b27 .active-numbers .ensures)), within-fresh _ _ _ _ _ (b15 .planned .ensures .0) (b14 .fresh .ensures))
 
 answer-requires : tie.Need-answer-requires
-answer-requires c κs = let b4 = c .before .before .before .before in let b16 = b4 .before .before .before .before .before .before .before .before .before .before .before .before in let b18 = b16 .before .before in let b19 = b18 .before in let b20 = b19 .before in let b35 = b20 .before .before .before .before .before .before .before .before .before .before .before .before .before .before .before in let b40 = b35 .before .before .before .before .before in rw (← b4 .run .ensures) at (run-forth (visitOf (b20 .planned .result) (b35 .rotation .result) (bundle (b20 .planned .result .n) (b40 .args .t1 .parents) (b40 .args .t1 .kinds) (b40 .args .t1 .origins) (b40 .args .t1 .axes) (b40 .args .t1 .links)) (b40 .args .q .now)) (b20 .planned .result .n * 32 + 64) (b18 .visits .result) (opening (b19 .fresh .result), b16 .clear .last .0, b40 .args .out .now))
+answer-requires c κs = search needs
 
 returns : tie.Need-returns
 returns c = let b1 = c .before in let b3 = b1 .before .before in let b5 = b3 .before .before in let b13 = b5 .before .before .before .before .before .before .before .before in let b14 = b13 .before in let b18 = b14 .before .before .before .before in whole-refused (b18 .args .mode) (b18 .args .t1) (b18 .args .q .now) (b18 .args .ws .now) (b18 .args .out .now) _ _ (b14 .floats .ensures) (b13 .rotation .ensures) _ _ _ _ _ (b5 .judged .ensures) (b3 .v .given .1) (b1 .shut .ensures) (c .refused .ensures)
@@ -67,7 +62,7 @@ same-length-2 : tie.Need-same-length-2
 same-length-2 c = search needs
 
 returns-2 : tie.Need-returns-2
-returns-2 c = let b5 = c .before .before .before .before .before in let b17 = b5 .before .before .before .before .before .before .before .before .before .before .before .before in let b19 = b17 .before .before in let b20 = b19 .before in let b21 = b20 .before in let b22 = b21 .before in let b26 = b22 .before .before .before .before in let b28 = b26 .before .before in let b36 = b28 .before .before .before .before .before .before .before .before in let b37 = b36 .before in let b41 = b37 .before .before .before .before in whole-fine (b41 .args .mode) (b41 .args .t1) (b41 .args .q .now) (b41 .args .ws .now) (b41 .args .out .now) _ _ (b37 .floats .ensures) (b36 .rotation .ensures) _ _ _ _ _ _ _ (b22 .number-at .ensures) (b21 .planned .ensures .0) (c .answer .ensures) _ _ _ (b28 .judged .ensures) (b26 .enum-told .given .1) (b20 .fresh .ensures) (b19 .visits .ensures) (b17 .clear .ensures) (b5 .run .ensures)
+returns-2 c = let b5 = c .before .before .before .before .before in let b17 = b5 .before .before .before .before .before .before .before .before .before .before .before .before in let b19 = b17 .before .before in let b20 = b19 .before in let b21 = b20 .before in let b22 = b21 .before in let b26 = b22 .before .before .before .before in let b28 = b26 .before .before in let b36 = b28 .before .before .before .before .before .before .before .before in let b37 = b36 .before in let b41 = b37 .before .before .before .before in whole-fine (b41 .args .mode) (b41 .args .t1) (b41 .args .q .now) (b41 .args .ws .now) (b41 .args .out .now) _ _ (b37 .floats .ensures) (b36 .rotation .ensures) _ _ _ _ _ _ _ (b22 .number-at .ensures) (b21 .planned .ensures .0) _ _ _ (b28 .judged .ensures) (b26 .enum-told .given .1) (b20 .fresh .ensures) (b19 .visits .ensures) (b17 .clear .ensures) (b5 .run .ensures .0) (c .answer .ensures)
 
 pub mass-matrix-spec : {M : Type 1} → statement M
 mass-matrix-spec =

@@ -1,11 +1,6 @@
 use mathlib.Core.Path.{sym, _∙_}
-use Prim.Native.Nat.{_+_, _*_}
 use lib.ListN.{length}
-use Rattle.arm.specs.Model.{bundle}
-use Rattle.mass_matrix.specs.Kernel.{visitOf}
 use borrow.Author.Needs.{needs}
-use Rattle.calls.specs.Position.{opening}
-use Rattle.calls.proofs.Steps.{run-forth}
 use Rattle.mass_matrix.specs.MassMatrix.{floats}
 use Rattle.mass_matrix.proofs.mass_matrix.Ready.{passed-good, few-actives, plan-ready, within-judged}
 use Rattle.refusals.proofs.Verdicts.{both-fine}
@@ -44,7 +39,7 @@ run-requires : tie.Need-run-requires
 run-requires c κs = let b9 = c .before .before .before .before .before .before .before .before .before in let b10 = b9 .before in let b14 = b10 .before .before .before .before in let b16 = b14 .before .before in let b21 = b16 .before .before .before .before .before in let b24 = b21 .before .before .before in let b25 = b24 .before in let b29 = b25 .before .before .before .before in let v = both-fine _ _ (sym (b16 .judged-at .ensures) ∙ b14 .enum-told .given .1) in (plan-ready (b25 .floats .result) (b24 .rotation .result) (b29 .args .t2 .n) (b29 .args .t2 .parents) (b29 .args .t2 .kinds) (b21 .active-numbers .result) (b29 .args .q .now) (length (b29 .args .ws .now)) (length (b29 .args .out .now)) (v .0) _ (b10 .number-at .ensures) _ (b9 .planned .ensures .0) (b21 .active-numbers .ensures), within-judged _ _ _ _ _ (b9 .planned .ensures .0) (rw (← b10 .number-at .ensures) at (v .1)))
 
 answer-requires : tie.Need-answer-requires
-answer-requires c κs = let b4 = c .before .before .before .before in let b14 = b4 .before .before .before .before .before .before .before .before .before .before in let b29 = b14 .before .before .before .before .before .before .before .before .before .before .before .before .before .before .before in let b34 = b29 .before .before .before .before .before in rw (← b4 .run .ensures) at (run-forth (visitOf (b14 .planned .result) (b29 .rotation .result) (bundle (b14 .planned .result .n) (b34 .args .t2 .parents) (b34 .args .t2 .kinds) (b34 .args .t2 .origins) (b34 .args .t2 .axes) (b34 .args .t2 .links)) (b34 .args .q .now)) (b14 .planned .result .n * 32 + 64) (b34 .args .budget) (opening (b34 .args .position), b34 .args .ws .now, b34 .args .out .now))
+answer-requires c κs = search needs
 
 returns : tie.Need-returns
 returns c = let b2 = c .before .before in let b4 = b2 .before .before in let b12 = b4 .before .before .before .before .before .before .before .before in let b13 = b12 .before in let b17 = b13 .before .before .before .before in portion-refused (b17 .args .mode) (b17 .args .t2) (b17 .args .q .now) (b17 .args .ws .now) (b17 .args .out .now) _ _ (b13 .floats .ensures) (b12 .rotation .ensures) (b17 .args .budget) (b17 .args .position) _ _ _ _ (b4 .judged-at .ensures) (b2 .v .given .1) (c .refused .ensures)
@@ -56,7 +51,7 @@ same-length-2 : tie.Need-same-length-2
 same-length-2 c = search needs
 
 returns-2 : tie.Need-returns-2
-returns-2 c = let b5 = c .before .before .before .before .before in let b15 = b5 .before .before .before .before .before .before .before .before .before .before in let b16 = b15 .before in let b20 = b16 .before .before .before .before in let b22 = b20 .before .before in let b30 = b22 .before .before .before .before .before .before .before .before in let b31 = b30 .before in let b35 = b31 .before .before .before .before in portion-fine (b35 .args .mode) (b35 .args .t2) (b35 .args .q .now) (b35 .args .ws .now) (b35 .args .out .now) _ _ (b31 .floats .ensures) (b30 .rotation .ensures) _ _ (b35 .args .position) _ _ _ _ (b16 .number-at .ensures) (b15 .planned .ensures .0) (c .answer .ensures) (b35 .args .budget) _ (b22 .judged-at .ensures) (b20 .enum-told .given .1) (b5 .run .ensures)
+returns-2 c = let b5 = c .before .before .before .before .before in let b15 = b5 .before .before .before .before .before .before .before .before .before .before in let b16 = b15 .before in let b20 = b16 .before .before .before .before in let b22 = b20 .before .before in let b30 = b22 .before .before .before .before .before .before .before .before in let b31 = b30 .before in let b35 = b31 .before .before .before .before in portion-fine (b35 .args .mode) (b35 .args .t2) (b35 .args .q .now) (b35 .args .ws .now) (b35 .args .out .now) _ _ (b31 .floats .ensures) (b30 .rotation .ensures) _ _ (b35 .args .position) _ _ _ _ (b16 .number-at .ensures) (b15 .planned .ensures .0) (b35 .args .budget) _ (b22 .judged-at .ensures) (b20 .enum-told .given .1) (b5 .run .ensures .0) (c .answer .ensures)
 
 pub portion-spec : {M : Type 1} → statement M
 portion-spec =

@@ -1,9 +1,9 @@
-use Prim.Native.Nat.{_+_, _*_}
 use native.Mathlib.Omega.{arith}
 use Rattle.arm.specs.Model.{bundle}
 use borrow.Author.Needs.{needs}
 use Rattle.calls.specs.Position.{opening}
 use Rattle.calls.proofs.Steps.{landed-is}
+use Rattle.mass_matrix.specs.Plan.{matrixPlace}
 use Rattle.mass_matrix.proofs.mass_matrix.Ready.{within-after}
 use Rattle.mass_matrix.proofs.mass_matrix.step.Statement.{statement}
 use Rattle.mass_matrix.proofs.mass_matrix.step.Tie as tie
@@ -30,7 +30,7 @@ same-length-2 : tie.Need-same-length-2
 same-length-2 c = search needs
 
 returns : tie.Need-returns
-returns c = let b5 = c .before .before .before .before .before in let b10 = b5 .before .before .before .before .before in let b15 = b10 .before .before .before .before .before in (landed-is (b15 .args .p .n * 32 + 64) (opening (b15 .args .s), b15 .args .ws .now, b15 .args .out .now) (b10 .visit .ensures) (b5 .close .ensures) (c .advanced .ensures), within-after (b15 .args .p) (b15 .args .r) (bundle (b15 .args .p .n) (b15 .args .parents .now) (b15 .args .kinds .now) (b15 .args .origins .now) (b15 .args .axes .now) (b15 .args .links .now)) (b15 .args .q .now) (b15 .args .s) (b15 .args .ws .now) (b10 .visit .ensures) (c .advanced .ensures))
+returns c = let b5 = c .before .before .before .before .before in let b10 = b5 .before .before .before .before .before in let b15 = b10 .before .before .before .before .before in (landed-is (matrixPlace (b15 .args .p .n)) (opening (b15 .args .s), b15 .args .ws .now, b15 .args .out .now) (b10 .visit .ensures) (b5 .close .ensures) (c .advanced .ensures), within-after (b15 .args .p) (b15 .args .r) (bundle (b15 .args .p .n) (b15 .args .parents .now) (b15 .args .kinds .now) (b15 .args .origins .now) (b15 .args .axes .now) (b15 .args .links .now)) (b15 .args .q .now) (b15 .args .s) (b15 .args .ws .now) (b10 .visit .ensures) (c .advanced .ensures))
 
 pub step-spec : {M : Type 1} → statement M
 step-spec =

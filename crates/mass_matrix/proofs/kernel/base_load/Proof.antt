@@ -1,8 +1,8 @@
 use borrow.Author.Tests.{lt-ltb, le-ltb}
-use Rattle.mass_matrix.specs.Kernel.{loadOf}
+use Rattle.mass_matrix.specs.Kernel.{baseLoad}
 use borrow.Author.Needs.{needs}
-use Rattle.mass_matrix.proofs.kernel.load.Statement.{statement}
-use Rattle.mass_matrix.proofs.kernel.load.Tie as tie
+use Rattle.mass_matrix.proofs.kernel.base_load.Statement.{statement}
+use Rattle.mass_matrix.proofs.kernel.base_load.Tie as tie
 
 inverse-requires : tie.Need-inverse-requires
 inverse-requires c κs = search needs
@@ -20,7 +20,7 @@ rotated-requires : tie.Need-rotated-requires
 rotated-requires c κs = search needs
 
 returns : tie.Need-returns
-unfolding loadOf
+unfolding baseLoad
 returns c = let b1 = c .before in let b2 = b1 .before in let b3 = b2 .before in let b4 = b3 .before in let b5 = b4 .before in simp (lt-ltb _ _ (b2 .if1 .taken), c .rotated .ensures, b1 .turn-force .ensures, b3 .rotate .ensures, b4 .world-axis .ensures, b5 .inverse .ensures)
 
 slide-force-requires : tie.Need-slide-force-requires
@@ -30,11 +30,11 @@ rotated-requires-2 : tie.Need-rotated-requires-2
 rotated-requires-2 c κs = search needs
 
 returns-2 : tie.Need-returns-2
-unfolding loadOf
+unfolding baseLoad
 returns-2 c = let b1 = c .before in let b2 = b1 .before in let b3 = b2 .before in let b4 = b3 .before in let b5 = b4 .before in simp (le-ltb _ _ (b2 .if1 .left), c .rotated2 .ensures, b1 .slide-force .ensures, b3 .rotate .ensures, b4 .world-axis .ensures, b5 .inverse .ensures)
 
-pub load-spec : {M : Type 1} → statement M
-load-spec =
+pub base-load-spec : {M : Type 1} → statement M
+base-load-spec =
     tie.close
     (tie.spec
     inverse-requires
