@@ -37,6 +37,7 @@ use Rattle.forward_visits.specs.Loads as loads
 use Rattle.calls.specs.Plan as plan
 use Rattle.forward_visits.specs.Root as roots
 use Rattle.forward_visits.specs.Second as seconds
+use Rattle.forward_visits.specs.Term as terms
 use Rattle.forward_visits.specs.Third as thirds
 use Rattle.mass_matrix.specs.Composite as composite
 use Rattle.mass_matrix.specs.Kernel as columns
@@ -58,7 +59,7 @@ unfolding frame.productOf frame.turnOf frame.slideOf operators.wrenchToParent op
 open-spatial = Unit {0}
 
 open-arm : Type 0
-unfolding refusals.scan refusals.lowest refusals.found refusals.namedOf refusals.plainOf refusals.orElse build.byteSlots build.doubleSlots build.axisSlot build.axisSlots build.modelOf build.builtOf builder.sizedBy builder.axisOf builder.badAxis builder.badRow builder.badRotation builder.listsVerdict builder.verdictOf joint.motionBy joint.normedAxis joint.scaledAxis joint.unitAxis joint.keptAxis joint.notUnit joint.turnedOf joint.frameOf model.emptyModel model.motionOf model.jointOf model.linkOf model.wildJoint model.wildOf topology.activesOf topology.valueOf
+unfolding refusals.scan refusals.lowest refusals.found refusals.namedOf refusals.plainOf refusals.orElse build.byteSlots build.doubleSlots build.axisSlot build.axisSlots build.modelOf build.builtOf builder.sizedBy builder.axisOf builder.badAxis builder.badRow builder.badRotation builder.listsVerdict builder.verdictOf joint.motionBy joint.normedAxis joint.scaledAxis joint.unitAxis joint.keptAxis joint.notUnit joint.turnedOf joint.frameOf model.emptyModel model.motionOf model.jointOf model.linkOf model.wildJoint model.wildOf topology.activesOf topology.valueOf topology.holdsOf topology.activeJoint
 open-arm = Unit {0}
 
 open-calls : Type 0
@@ -66,7 +67,7 @@ unfolding checks.badValue checks.valuesVerdict checks.farTurn checks.turnsVerdic
 open-calls = Unit {0}
 
 open-matrix : Type 0
-unfolding composite.compositeAt composite.putComposite composite.shiftedOf composite.toParentOf composite.joinedOf composite.forceOf columns.begunOf columns.frameVisit columns.addInto columns.compositeVisit columns.baseRows columns.columnVisit columns.holdsOf columns.columnFound columns.rootColumns columns.tested columns.rootVisit columns.jointVisit columns.visitOf matrix.restVerdict matrix.inputsVerdict matrix.massMatrix plan.planBy sizes.putPair walk.entryOf walk.putEntry walk.walkStep walk.climb walk.walkOf
+unfolding composite.compositeAt composite.putComposite composite.shiftedOf composite.toParentOf composite.joinedOf composite.forceOf columns.begunOf columns.frameVisit columns.addInto columns.compositeVisit columns.baseRows columns.columnVisit columns.columnFound columns.rootColumns columns.tested columns.rootVisit columns.jointVisit columns.visitOf matrix.restVerdict matrix.inputsVerdict matrix.massMatrix plan.planBy sizes.putPair walk.entryOf walk.putEntry walk.walkStep walk.climb walk.walkOf
 open-matrix = Unit {0}
 
 open-articulated : Type 0
@@ -74,7 +75,7 @@ unfolding inertia.fromBlocks inertia.rigidOf inertia.inertiaApply inertia.signed
 open-articulated = Unit {0}
 
 open-dynamics : Type 0
-unfolding firsts.parentTwist firsts.putFirst firsts.firstAt firsts.firstVisit visits.outcomeOf visits.passVisit visits.visitOf loads.loadTo loads.loadsTo plan.planBy roots.putRoot roots.begunOf roots.baseAt roots.keptBase roots.floatingRoot roots.rootVisit seconds.termAt seconds.putTerm seconds.newTerm seconds.unlessRefused seconds.keptTerm seconds.eliminated seconds.propagated seconds.secondVisit thirds.carriedAt thirds.keptJoint thirds.solvedJoint thirds.thirdVisit inputs.wildNumber inputs.leastTo inputs.motionVerdict inputs.forcesVerdict inputs.loadsVerdict inputs.rootVerdict inputs.restVerdict inputs.inputsVerdict dynamics.forwardDynamics
+unfolding firsts.parentTwist firsts.putFirst firsts.firstAt firsts.firstVisit visits.outcomeOf visits.passVisit visits.visitOf loads.loadTo loads.loadsTo plan.planBy roots.putRoot roots.begunOf roots.baseAt roots.keptBase roots.floatingRoot roots.rootVisit terms.termAt terms.putTerm seconds.newTerm seconds.unlessRefused seconds.keptTerm seconds.eliminated seconds.propagated seconds.secondVisit thirds.carriedAt thirds.keptJoint thirds.solvedJoint thirds.thirdVisit inputs.wildNumber inputs.leastTo inputs.motionVerdict inputs.forcesVerdict inputs.loadsVerdict inputs.rootVerdict inputs.restVerdict inputs.inputsVerdict dynamics.forwardDynamics
 open-dynamics = Unit {0}
 
 -- ---- in two parts, since the steps of one computation are limited

@@ -1,3 +1,4 @@
 pub mod OneResult
 pub mod Divided
+pub mod Settled
 pub mod Cases

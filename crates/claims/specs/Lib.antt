@@ -1,2 +1,3 @@
 pub mod OneResult
 pub mod Cases
+pub mod Settled

@@ -24,7 +24,11 @@ use Rattle.calls.specs.declared.plan.Plan.{Plan}
 use Rattle.forward_visits.specs.Layout.{inertiaPlace, forcePlace, rootInertiaPlace, rootForcePlace}
 use Rattle.forward_visits.specs.Loads.{loadsTo}
 use Rattle.forward_visits.specs.First.{putFirst, firstVisit}
-use Rattle.forward_visits.specs.Second.{fixedBy, putTerm, unlessRefused, keptTerm, eliminated, addBody, addMoved, addWhole, addReduced, addInto, propagated, secondVisit}
+use Rattle.forward_visits.specs.Second.{fixedBy, unlessRefused, keptTerm, eliminated, addInto, propagated, secondVisit}
+use Rattle.forward_visits.specs.Term.{putTerm}
+use Rattle.forward_visits.specs.Body.{addBody, addMoved}
+use Rattle.forward_visits.specs.Whole.{addWhole}
+use Rattle.forward_visits.specs.Reduced.{addReduced}
 use Rattle.forward_visits.specs.Root.{putRoot, begunOf, keptBase, floatingRoot, rootVisit}
 use Rattle.forward_visits.specs.Third.{keptJoint, solvedJoint, thirdVisit}
 use Rattle.forward_visits.specs.Kernel.{passVisit, visitOf}

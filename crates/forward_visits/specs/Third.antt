@@ -16,7 +16,8 @@ use Rattle.arm.specs.declared.joint.Motion.{Motion}
 use Rattle.articulated.specs.Third.{carriedAcceleration, jointAcceleration, movedBy}
 use Rattle.forward_visits.specs.Layout.{framePlace, biasPlace, termPlace, accelerationPlace, rootAccelerationPlace, resultsPlace}
 use Rattle.forward_visits.specs.First.{parentTwist}
-use Rattle.forward_visits.specs.Second.{fixedBy, termAt}
+use Rattle.forward_visits.specs.Second.{fixedBy}
+use Rattle.forward_visits.specs.Term.{termAt}
 use Rattle.calls.specs.declared.plan.Plan.{Plan}
 
 -- joint j's link before the joint's own acceleration

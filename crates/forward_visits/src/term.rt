@@ -2,7 +2,7 @@
 ghost use mathlib.Core.Path.{_≡_};
 ghost use Prim.Native.Nat.{_+_, _≤_};
 ghost use lib.ListN.{length};
-ghost use Rattle.forward_visits.specs.Second.{termAt, putTerm};
+ghost use Rattle.forward_visits.specs.Term.{termAt, putTerm};
 use articulated::second::Term;
 
 pub fn term_at(s: &[f64], at: usize) -> Term

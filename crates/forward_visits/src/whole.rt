@@ -4,7 +4,7 @@ ghost use Prim.Native.Nat.{_+_, _≤_, _<_};
 ghost use lib.ListN.{length};
 ghost use Rattle.slots.specs.Slots.{mat6At};
 ghost use Rattle.forward_visits.specs.Layout.{framePlace, inertiaPlace};
-ghost use Rattle.forward_visits.specs.Second.{addWhole};
+ghost use Rattle.forward_visits.specs.Whole.{addWhole};
 use crate::body;
 use crate::layout;
 use articulated::second;

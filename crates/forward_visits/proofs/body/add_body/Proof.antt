@@ -1,4 +1,4 @@
-use Rattle.forward_visits.specs.Second.{addBody}
+use Rattle.forward_visits.specs.Body.{addBody}
 use borrow.Author.Needs.{needs}
 use Rattle.forward_visits.proofs.body.add_body.Statement.{statement}
 use Rattle.forward_visits.proofs.body.add_body.Tie as tie

@@ -1,4 +1,4 @@
-use Rattle.forward_visits.specs.Second.{addMoved}
+use Rattle.forward_visits.specs.Body.{addMoved}
 use borrow.Author.Needs.{needs}
 use Rattle.forward_visits.proofs.body.add_moved.Statement.{statement}
 use Rattle.forward_visits.proofs.body.add_moved.Tie as tie

@@ -1,5 +1,5 @@
 use native.Mathlib.Omega.{arith}
-use Rattle.forward_visits.specs.Second.{addReduced}
+use Rattle.forward_visits.specs.Reduced.{addReduced}
 use borrow.Author.Needs.{needs}
 use Rattle.forward_visits.proofs.reduced.add_into.Statement.{statement}
 use Rattle.forward_visits.proofs.reduced.add_into.Tie as tie

@@ -1,4 +1,4 @@
-use Rattle.forward_visits.specs.Second.{reducedAt}
+use Rattle.forward_visits.specs.Reduced.{reducedAt}
 use borrow.Author.Needs.{needs}
 use Rattle.forward_visits.proofs.reduced.inertia_at.Statement.{statement}
 use Rattle.forward_visits.proofs.reduced.inertia_at.Tie as tie

@@ -1,4 +1,4 @@
-use Rattle.forward_visits.specs.Second.{putTerm}
+use Rattle.forward_visits.specs.Term.{putTerm}
 use borrow.Author.Needs.{needs}
 use Rattle.forward_visits.proofs.term.put_term.Statement.{statement}
 use Rattle.forward_visits.proofs.term.put_term.Tie as tie

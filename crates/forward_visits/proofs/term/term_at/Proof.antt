@@ -1,4 +1,4 @@
-use Rattle.forward_visits.specs.Second.{termAt}
+use Rattle.forward_visits.specs.Term.{termAt}
 use borrow.Author.Needs.{needs}
 use Rattle.forward_visits.proofs.term.term_at.Statement.{statement}
 use Rattle.forward_visits.proofs.term.term_at.Tie as tie

@@ -1,4 +1,4 @@
-use Rattle.forward_visits.specs.Second.{addWhole}
+use Rattle.forward_visits.specs.Whole.{addWhole}
 use borrow.Author.Needs.{needs}
 use Rattle.forward_visits.proofs.whole.add_into.Statement.{statement}
 use Rattle.forward_visits.proofs.whole.add_into.Tie as tie
