@@ -60,6 +60,6 @@ passParts p m k =
     (cond (eqb k (n + n)) (rootParts p)
     (thirdParts p (motionOf (m .kinds) (m .axes) rising) (activesOf (m .kinds) rising) rising)))
 
--- THE TABLE: the places that visit k sets
+-- THE TABLE: the places that visit k sets; one that refuses sets fewer
 unfoldable pub setBy : Plan → Model → ℕ → List Part
 setBy p m k = cond (eqb k 0) (begunParts (p .n)) [] ++ passParts p m k
