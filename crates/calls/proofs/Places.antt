@@ -33,7 +33,7 @@ module _ {w : Work} {table : Table} (tabled : Tabled w table) (i : ℕ) where
   unfolding advancedBy ended closing
   step-stays s c o f =
       rw (step-open (w .visit) (w .results) s c)
-      (go (w .visit (visits s) (s .1)) (tabled .keeps (visits s) (s .1) i f) (rw (step-open (w .visit) (w .results) s c) at o))
+      (go (w .visit (visits s) (s .1)) (tabled .sets (visits s) (s .1) .kept i f) (rw (step-open (w .visit) (w .results) s c) at o))
     where
       go : (e : Outcome × List Float) → getD (e .1) i nan ≡ getD (s .1) i nan → closed (landed (w .results) s e) ≡ false
           → (visits (landed (w .results) s e) ≡ visits s + 1) × (getD (landed (w .results) s e .1) i nan ≡ getD (s .1) i nan)
@@ -93,7 +93,7 @@ module _ {w : Work} {table : Table} (sound : Sound w) (tabled : Tabled w table) 
       land (Refused number p, ws) h = zero-cleared i ws (h .0)
 
       made : Zero i (w .visit (visits s) (s .1) .1)
-      made = (rw (sound .kept (visits s) (s .1)) (z .0), tabled .keeps (visits s) (s .1) i (clear (visits s)) ∙ z .1)
+      made = (rw (sound .kept (visits s) (s .1)) (z .0), tabled .sets (visits s) (s .1) .kept i (clear (visits s)) ∙ z .1)
 
       go : (b : Bool) → closed s ≡ b → Zero i (stepOf w s .1)
       go true c = rw (step-closed (w .visit) (w .results) s c) z

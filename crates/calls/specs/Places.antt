@@ -1,10 +1,8 @@
 -- The places of the workspace that each visit of a calculation sets (document 01, "Visits"). Definitions only.
 use mathlib.Core.List.{List}
-use mathlib.Core.Path.{_≡_}
 use Prim.Native.Nat.{ℕ, _≤_, _<_}
-use lib.ListN.{getD}
-use lib.Ieee.{Float, nan}
-use Rattle.slots.specs.Parts.{Part, Clear}
+use lib.Ieee.{Float}
+use Rattle.slots.specs.Parts.{Part, Clear, Sets}
 use Rattle.calls.specs.Position.{Work}
 
 -- the places that each visit sets
@@ -13,7 +11,7 @@ Table = ℕ → List Part
 
 -- a visit changes no number but those of its places
 pub record Tabled (w : Work) (table : Table) : Type 0 where
-  pub keeps : (k : ℕ) (ws : List Float) (i : ℕ) → Clear (table k) i → getD (w .visit k ws .1) i nan ≡ getD ws i nan
+  pub sets : (k : ℕ) (ws : List Float) → Sets (table k) ws (w .visit k ws .1)
 
 -- no visit from k on and before l sets place i
 abbrev pub Rests : Table → ℕ → ℕ → ℕ → Type 0

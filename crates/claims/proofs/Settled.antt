@@ -31,7 +31,7 @@ module _ (mode : Mode) (m : Model) (q : List Float) where
   -- a visit changes no number but those of its table
   pub matrix-tabled : Tabled matrix (matrixTable mode m)
   unfolding massMatrix
-  matrix-tabled = record { keeps = keeps (planOf (floats mode) (m .n) (m .kinds)) (rotationOf mode) m q }
+  matrix-tabled = record { sets = keeps (planOf (floats mode) (m .n) (m .kinds)) (rotationOf mode) m q }
 
   -- what was set stays until a visit that the table lists for it
   pub matrix-stays : (ws out : List Float) (k l i : ℕ) → k ≤ l → Rests (matrixTable mode m) i k l → after matrix l ws out .0 .position .closed ≡ false
@@ -50,7 +50,7 @@ module _ (mode : DynamicsMode) (m : Model) (q qd forces : List Float) (loaded : 
   unfolding forwardDynamics
   dynamics-tabled =
       let rotation = dynamicsRotation mode in
-      record { keeps = dynamics-keeps (planOf (dynamicsFloats mode) (m .n) (m .kinds)) rotation (rootVelocity rotation (baseVelocity mode)) m q qd forces loaded loads }
+      record { sets = dynamics-keeps (planOf (dynamicsFloats mode) (m .n) (m .kinds)) rotation (rootVelocity rotation (baseVelocity mode)) m q qd forces loaded loads }
 
   pub dynamics-stays : (ws out : List Float) (k l i : ℕ) → k ≤ l → Rests (dynamicsTable mode m) i k l → after dynamics l ws out .0 .position .closed ≡ false
       → getD (after dynamics l ws out .1) i nan ≡ getD (after dynamics k ws out .1) i nan

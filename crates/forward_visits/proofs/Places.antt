@@ -1,19 +1,19 @@
 -- A visit sets no place but those of the table: every other number keeps its bits. Assumes nothing.
-use mathlib.Core.Bool.{Bool, true, false, cond}
+use mathlib.Core.Bool.{cond}
 use mathlib.Core.List.{List, [], _∷_, _++_}
-use mathlib.Core.Path.{_≡_, refl, _∙_}
+use mathlib.Core.Path.{_≡_, refl}
 use Prim.Native.Nat.{ℕ, zero, suc, _+_, _-_}
 use native.Mathlib.Omega.{arith}
 use lib.Dec.{eqb, ltb}
-use lib.ListN.{getD}
-use lib.Ieee.{Float, nan}
+use lib.Ieee.{Float}
 use Rattle.numbers.specs.Double.{finite}
 use Rattle.numbers.specs.declared.quaternion.Quaternion.{Quaternion}
 use Rattle.refusals.specs.declared.Verdict.{Verdict}
 use Rattle.refusals.specs.declared.Verdict.the-variants.{Fine, Refused}
 use Rattle.spatial.specs.declared.twist.Twist.{Twist}
 use Rattle.spatial.specs.declared.wrench.Wrench.{Wrench}
-use Rattle.slots.specs.Parts.{Part, part, Clear}
+use Rattle.slots.specs.Parts.{Part, part, Sets}
+use Rattle.slots.proofs.Sets.{none, here, there, then, row, choice, way}
 use Rattle.slots.proofs.Blocks.{Outside, wider, both, set-outside, putTwist-outside, putWrench-outside, putFrame-outside, putTo-outside, zeroTo-outside}
 use Rattle.arm.specs.Model.{parentOf, motionOf}
 use Rattle.arm.specs.Topology.{activesOf}
@@ -46,49 +46,6 @@ left e = e .1
 
 abbrev same : List Float → List Float
 same ws = ws
-
--- ---- parts
-
-clear-first : (some more : List Part) (i : ℕ) → Clear (some ++ more) i → Clear some i
-unfolding Clear
-clear-first [] more i c = tt
-clear-first (p ∷ some) more i c = (c .0, clear-first some more i (c .1))
-
-clear-rest : (some more : List Part) (i : ℕ) → Clear (some ++ more) i → Clear more i
-unfolding Clear
-clear-rest [] more i c = c
-clear-rest (p ∷ some) more i c = clear-rest some more i (c .1)
-
--- t is s but for the parts
-record Sets (parts : List Part) (s t : List Float) : Type 0 where
-  kept : (i : ℕ) → Clear parts i → getD t i nan ≡ getD s i nan
-
-none : {parts : List Part} (s : List Float) → Sets parts s s
-none s = record { kept = λ i c. refl }
-
-here : {at l : ℕ} {more : List Part} {s t : List Float} → Outside at l s t → Sets (part at l ∷ more) s t
-unfolding Clear
-here f = record { kept = λ i c. f .kept i (c .0) }
-
-there : {p : Part} {more : List Part} {s t : List Float} → Sets more s t → Sets (p ∷ more) s t
-unfolding Clear
-there f = record { kept = λ i c. f .kept i (c .1) }
-
--- one after another, of the same parts, and of more
-then : {parts : List Part} {s t u : List Float} → Sets parts s t → Sets parts t u → Sets parts s u
-then f g = record { kept = λ i c. g .kept i c ∙ f .kept i c }
-
-row : (some more : List Part) {s t u : List Float} → Sets some s t → Sets more t u → Sets (some ++ more) s u
-row some more f g = record { kept = λ i c. g .kept i (clear-rest some more i c) ∙ f .kept i (clear-first some more i c) }
-
--- a choice, of the same parts, and of the parts of each way
-choice : {S : Type 0} (f : S → List Float) (b : Bool) {x y : S} {parts : List Part} {s : List Float} → Sets parts s (f x) → Sets parts s (f y) → Sets parts s (f (cond b x y))
-choice f true d e = d
-choice f false d e = e
-
-way : {S : Type 0} (f : S → List Float) (b : Bool) {x y : S} {some more : List Part} {s : List Float} → Sets some s (f x) → Sets more s (f y) → Sets (cond b some more) s (f (cond b x y))
-way f true d e = d
-way f false d e = e
 
 -- a visit that refuses sets fewer
 unless : (v : Verdict) {parts : List Part} {s ws done : List Float} → Sets parts s ws → Sets parts s done → Sets parts s (unlessRefused v ws (Fine, done) .1)
@@ -180,11 +137,7 @@ module _ (p : Plan) (rotation : Quaternion) (velocity : Twist) (m : Model) (q qd
       (way left (ltb k (n + n)) (second-sets p (m .parents) (m .kinds) (m .axes) forces (n + n - 1 - k) ws)
       (way left (eqb k (n + n)) (root-sets p rotation velocity forces ws) (third-sets p (m .parents) (m .kinds) (m .axes) (k - (n + n) - 1) ws)))
 
-  visit-sets : (loaded : List ℕ) (loads : List Float) (k : ℕ) (ws : List Float) → Sets (setBy p m k) ws (visitOf p rotation velocity m q qd forces loaded loads k ws .1)
+  -- A VISIT SETS NO OTHER PLACE, whatever the arguments are: past the workspace's end a number is NaN before and after
+  pub keeps : (loaded : List ℕ) (loads : List Float) (k : ℕ) (ws : List Float) → Sets (setBy p m k) ws (visitOf p rotation velocity m q qd forces loaded loads k ws .1)
   unfolding setBy visitOf
-  visit-sets loaded loads k ws = row (cond (eqb k 0) (begunParts (p .n)) []) (passParts p m k) (begun-sets (p .n) velocity (m .links) loaded loads k ws) (pass-sets k _)
-
-  -- whatever the arguments are: past the workspace's end a number is NaN before and after
-  pub keeps : (loaded : List ℕ) (loads : List Float) (k : ℕ) (ws : List Float) (i : ℕ) → Clear (setBy p m k) i
-      → getD (visitOf p rotation velocity m q qd forces loaded loads k ws .1) i nan ≡ getD ws i nan
-  keeps loaded loads k ws i c = visit-sets loaded loads k ws .kept i c
+  keeps loaded loads k ws = row (cond (eqb k 0) (begunParts (p .n)) []) (passParts p m k) (begun-sets (p .n) velocity (m .links) loaded loads k ws) (pass-sets k _)

@@ -1,6 +1,6 @@
 -- Blocks of a list of numbers: what is written at one place leaves every other, and a reader sees its own block alone. Assumes nothing.
-use mathlib.Core.List.{List}
-use mathlib.Core.Path.{_≡_, refl, ap, _∙_}
+use mathlib.Core.List.{List, [], _∷_, _++_}
+use mathlib.Core.Path.{_≡_, refl, _∙_}
 use Prim.Native.Nat.{ℕ, zero, suc, _+_, _≤_, _<_}
 use native.Mathlib.Omega.{arith}
 use lib.ListN.{length, getD, set}
@@ -14,7 +14,7 @@ use Rattle.numbers.specs.declared.mat3.Mat3.{Mat3}
 use Rattle.spatial.specs.declared.frame.Frame.{Frame}
 use Rattle.spatial.specs.declared.twist.Twist.{Twist}
 use Rattle.spatial.specs.declared.wrench.Wrench.{Wrench}
-use Rattle.slots.specs.Slots.{vec3At, putVec3, mat3At, putMat3, mat6At, putTo, putMat6, twistAt, putTwist, wrenchAt, putWrench, frameAt, putFrame, zeroTo, cleared}
+use Rattle.slots.specs.Slots.{vec3At, putVec3, mat3At, putMat3, putTo, twistAt, putTwist, wrenchAt, putWrench, frameAt, putFrame, zeroTo, cleared, mat6At, partOf}
 
 -- ---- the two relations
 
@@ -101,6 +101,12 @@ zeroTo-outside s at (suc n) =
 
 -- ---- readers
 
+-- tables by index with the same entries
+tab-same : (f g : ℕ → Float) (n : ℕ) → ((i : ℕ) → i < n → f i ≡ g i) → tab f n ≡ tab g n
+unfolding tab
+tab-same f g zero h = refl
+tab-same f g (suc n) h = λ k. tab-same f g n (λ i l. h i (omega arith)) k ++ h n (omega arith) k ∷ []
+
 module _ (s t : List Float) where
   pub vec3-same : (at : ℕ) → Same at 3 s t → vec3At t at ≡ vec3At s at
   vec3-same at f k =
@@ -138,6 +144,14 @@ module _ (s t : List Float) where
         r1 = vec3-same (at + 3) (λ i a b. f i (omega arith) (omega arith)) k;
         r2 = vec3-same (at + 6) (λ i a b. f i (omega arith) (omega arith)) k;
       }
+
+  pub part-same : (at n : ℕ) → Same at n s t → partOf t at n ≡ partOf s at n
+  unfolding partOf
+  part-same at n f = tab-same (λ i. getD t (at + i) nan) (λ i. getD s (at + i) nan) n (λ i l. f (at + i) (omega arith) (omega arith))
+
+  pub mat6-same : (at : ℕ) → Same at 36 s t → mat6At t at ≡ mat6At s at
+  unfolding mat6At
+  mat6-same at f = tab-same (λ i. getD t (at + i) nan) (λ i. getD s (at + i) nan) 36 (λ i l. f (at + i) (omega arith) (omega arith))
 
 -- ---- a cleared list
 

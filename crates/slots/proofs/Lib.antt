@@ -1,2 +1,3 @@
 pub mod Lengths
 pub mod Blocks
+pub mod Sets
