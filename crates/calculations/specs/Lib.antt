@@ -1,4 +1,3 @@
-pub mod Calculation
 pub mod Column
 pub mod Make
 pub mod Read

@@ -16,9 +16,9 @@ use Rattle.numbers.specs.declared.quaternion.Quaternion.{Quaternion}
 use Rattle.calls.specs.declared.position.Position.{Position}
 use Rattle.mass_matrix.specs.declared.mass_matrix.Mode.the-variants as matrix
 use Rattle.forward_dynamics.specs.declared.forward_dynamics.Mode.the-variants as forward
-use Rattle.calculations.specs.Calculation.{Inputs, inputsBy}
-use Rattle.calculations.specs.declared.calculation.Calculation.{Calculation}
-use Rattle.calculations.specs.declared.calculation.Calculation.the-variants as of
+use Rattle.dynamics.specs.Calculation.{Inputs, inputsBy}
+use Rattle.dynamics.specs.declared.calculation.Calculation.{Calculation}
+use Rattle.dynamics.specs.declared.calculation.Calculation.the-variants as of
 use Rattle.calculations.specs.declared.read.Kind.{Kind}
 use Rattle.calculations.specs.declared.read.Kind.the-variants.{Matrix, FloatingMatrix, Forward, FloatingForward}
 use Rattle.calculations.specs.declared.read.Named.{Named}

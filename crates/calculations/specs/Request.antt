@@ -13,7 +13,7 @@ use Rattle.calls.specs.Position.{Work}
 use Rattle.calculations.specs.declared.make.How.{How}
 use Rattle.calculations.specs.declared.make.How.the-variants.{Times, From}
 use Rattle.calculations.specs.declared.read.Kind.{Kind}
-use Rattle.calculations.specs.Calculation.{workOf}
+use Rattle.dynamics.specs.Calculation.{workOf}
 use Rattle.calculations.specs.Make.{Made, madeOf}
 use Rattle.calculations.specs.Read.{kind, calculation, inputs, lengths, position}
 use Rattle.calculations.specs.Write.{madeText}

@@ -1,5 +1,4 @@
 // The requests of `desk` that make a calculation, and `column`.
-pub mod calculation;
 pub mod column;
 pub mod make;
 pub mod read;

@@ -3,13 +3,13 @@ ghost use mathlib.Core.Path.{_≡_};
 ghost use Prim.Native.Nat.{_≤_};
 ghost use lib.ListN.{length};
 ghost use Rattle.calls.specs.Position.{startOf};
-ghost use Rattle.calculations.specs.Calculation.{workOf, inputsBy};
+ghost use Rattle.dynamics.specs.Calculation.{workOf, inputsBy};
 ghost use Rattle.calculations.specs.Make.{inPortions, begunIn, onceOf, timesOf, madeOf, madeBy};
-use crate::calculation;
-use crate::calculation::Calculation;
 use arm::model::Model;
 use calls::position::Answer;
 use calls::position::Position;
+use dynamics::calculation;
+use dynamics::calculation::Calculation;
 
 // So many times on the same buffers, or the portions alone, from this position.
 pub enum How {

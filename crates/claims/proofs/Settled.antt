@@ -16,7 +16,7 @@ use Rattle.calls.specs.Position.{Work}
 use Rattle.calls.proofs.Places.{stays, never}
 use Rattle.mass_matrix.specs.MassMatrix.{floats, rotationOf, massMatrix}
 use Rattle.mass_matrix.specs.declared.mass_matrix.Mode.{Mode}
-use Rattle.mass_matrix.proofs.Places.{keeps}
+use Rattle.matrix_visits.proofs.Places.{keeps}
 use Rattle.mass_matrix.proofs.Sound.{sound as matrix-sound}
 use Rattle.forward_dynamics.specs.ForwardDynamics.{baseVelocity, forwardDynamics, floats as dynamicsFloats, rotationOf as dynamicsRotation}
 use Rattle.forward_dynamics.specs.declared.forward_dynamics.Mode.{Mode as DynamicsMode}

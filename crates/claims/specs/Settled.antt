@@ -3,7 +3,7 @@ use Rattle.arm.specs.declared.model.Model.{Model}
 use Rattle.calls.specs.Places.{Table}
 use Rattle.calls.specs.Plan.{planOf}
 use Rattle.mass_matrix.specs.MassMatrix.{floats}
-use Rattle.mass_matrix.specs.Places.{setBy}
+use Rattle.matrix_visits.specs.Places.{setBy}
 use Rattle.mass_matrix.specs.declared.mass_matrix.Mode.{Mode}
 use Rattle.forward_dynamics.specs.ForwardDynamics.{floats as dynamicsFloats}
 use Rattle.forward_dynamics.specs.declared.forward_dynamics.Mode.{Mode as DynamicsMode}

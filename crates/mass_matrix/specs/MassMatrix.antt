@@ -16,9 +16,9 @@ use Rattle.arm.specs.declared.model.Model.{Model}
 use Rattle.calls.specs.Checks.{valuesVerdict, turnsVerdict, badRotation}
 use Rattle.calls.specs.Position.{Work}
 use Rattle.calls.specs.declared.position.Position.{Position}
-use Rattle.mass_matrix.specs.Kernel.{visitOf}
+use Rattle.matrix_visits.specs.Kernel.{visitOf}
 use Rattle.calls.specs.Plan.{planOf, Fit}
-use Rattle.mass_matrix.specs.Plan.{matrixPlace, Room}
+use Rattle.matrix_visits.specs.Plan.{matrixPlace, Room}
 use Rattle.mass_matrix.specs.declared.mass_matrix.Mode.{Mode}
 use Rattle.mass_matrix.specs.declared.mass_matrix.Mode.the-variants.{Fixed, Floating}
 use Rattle.calls.specs.declared.plan.Plan.{Plan}

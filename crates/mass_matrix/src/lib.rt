@@ -1,7 +1,3 @@
-// The mass matrix by composite bodies (`mass_matrix.rs`), in visits, on a fixed or a floating root.
+// The mass matrix (`mass_matrix.rs`) in portions of its visits, on a fixed or a floating root, and a column of it.
 pub mod column;
-pub mod composite;
-pub mod kernel;
 pub mod mass_matrix;
-pub mod plan;
-pub mod walk;

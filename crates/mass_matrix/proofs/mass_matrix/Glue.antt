@@ -21,12 +21,12 @@ use Rattle.calls.specs.Position.{freshAt, shutAt, positionVerdict, visitsOf, it
 use Rattle.calls.specs.declared.position.Position.{Position}
 use Rattle.calls.specs.declared.position.Progress.{Progress}
 use Rattle.calls.specs.declared.position.Answer.{Answer}
-use Rattle.mass_matrix.specs.Kernel.{visitOf}
+use Rattle.matrix_visits.specs.Kernel.{visitOf}
 use Rattle.calls.specs.Plan.{planBy}
 use Rattle.mass_matrix.specs.MassMatrix.{restVerdict, inputsVerdict, floats, rotationOf, massMatrix}
 use Rattle.mass_matrix.specs.declared.mass_matrix.Mode.{Mode}
 use Rattle.calls.specs.declared.plan.Plan.{Plan}
-use Rattle.mass_matrix.specs.Plan.{matrixPlace}
+use Rattle.matrix_visits.specs.Plan.{matrixPlace}
 
 -- ---- the checks to 22, at each way out
 

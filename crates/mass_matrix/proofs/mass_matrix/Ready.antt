@@ -23,9 +23,9 @@ use Rattle.refusals.specs.declared.Place.the-variants.{Nothing}
 use Rattle.calls.specs.declared.position.Position.{Position}
 use Rattle.calls.specs.declared.position.Progress.{Progress}
 use Rattle.calls.proofs.Passed.{tame, not-short, as-wanted, counted, still-open}
-use Rattle.mass_matrix.specs.Kernel.{tested, rootVisit, visitOf, begunOf, rootColumns}
+use Rattle.matrix_visits.specs.Kernel.{tested, rootVisit, visitOf, begunOf, rootColumns}
 use Rattle.calls.specs.Plan.{planBy, planOf, Fit}
-use Rattle.mass_matrix.specs.Plan.{matrixPlace, Room}
+use Rattle.matrix_visits.specs.Plan.{matrixPlace, Room}
 use Rattle.mass_matrix.specs.MassMatrix.{restVerdict, inputsVerdict, Ready, Within}
 use Rattle.calls.specs.declared.plan.Plan.{Plan}
 

@@ -4,14 +4,14 @@ use Prim.Native.Nat.{_-_, _≤_, _<_}
 use native.Mathlib.Omega.{arith}
 use borrow.Author.Needs.{needs}
 use lib.ListN.{length, length-set}
-use Rattle.calculations.specs.Calculation.{workOf, inputsBy}
+use Rattle.dynamics.specs.Calculation.{workOf, inputsBy}
 use Rattle.calculations.specs.Make.{inPortions}
 use Rattle.calculations.proofs.make.Laws.{after, portion-on, portions-end}
 use Rattle.calculations.proofs.make.portions.Statement.{statement}
 use Rattle.calculations.proofs.make.portions.Tie as tie
 use Rattle.calculations.proofs.make.portions.Reads as reads
 use Rattle.calculations.proofs.make.portions.Lts as lts
-use Rattle.calculations.proofs.calculation.portion.Reads as portion-reads
+use Rattle.dynamics.proofs.calculation.portion.Reads as portion-reads
 
 abbrev Inv-loop : tie.InvT-loop
 Inv-loop c m q qd forces loaded loads budgets counts₀ ws₀ out₀ answer₀ k₀ counts ws out answer k =

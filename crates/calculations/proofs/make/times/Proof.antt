@@ -3,7 +3,7 @@ use mathlib.Core.Path.{_≡_, refl, sym, _∙_}
 use Prim.Native.Nat.{_-_, _≤_}
 use borrow.Author.Needs.{needs}
 use lib.ListN.{length}
-use Rattle.calculations.specs.Calculation.{workOf, inputsBy}
+use Rattle.dynamics.specs.Calculation.{workOf, inputsBy}
 use Rattle.calculations.specs.Make.{againOf, timesOf, madeBy}
 use Rattle.calls.specs.Position.{iterate}
 use Rattle.calculations.proofs.make.Laws.{again-on, again-end}

@@ -5,7 +5,7 @@ use native.Mathlib.Omega.{arith}
 use lib.ListN.{length}
 use lib.Ieee.{Float}
 use Rattle.arm.specs.Model.{bundle}
-use Rattle.mass_matrix.specs.Kernel.{visitOf}
+use Rattle.matrix_visits.specs.Kernel.{visitOf}
 use borrow.Author.Needs.{needs}
 use Rattle.calls.specs.Position.{stepBy, iterate, opening}
 use Rattle.calls.proofs.Steps.{iterate-next, step-open, run-closed, run-forth}
@@ -15,7 +15,7 @@ use Rattle.calls.specs.Position.{State}
 use Rattle.calls.specs.declared.position.Position.{Position}
 use Rattle.calls.specs.declared.position.Progress.{Progress}
 use Rattle.calls.specs.declared.plan.Plan.{Plan}
-use Rattle.mass_matrix.specs.Plan.{matrixPlace}
+use Rattle.matrix_visits.specs.Plan.{matrixPlace}
 use Rattle.mass_matrix.proofs.mass_matrix.run.Statement.{statement}
 use Rattle.mass_matrix.proofs.mass_matrix.run.Tie as tie
 

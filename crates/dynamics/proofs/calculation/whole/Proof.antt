@@ -1,0 +1,54 @@
+-- `calculation::whole` meets its contract.
+use Prim.Native.Nat.{_-_}
+use borrow.Author.Needs.{needs}
+use Rattle.dynamics.proofs.calculation.whole.Statement.{statement}
+use Rattle.dynamics.proofs.calculation.whole.Tie as tie
+use Rattle.dynamics.proofs.calculation.whole.Reads as reads
+use Rattle.dynamics.proofs.calculation.whole.Lts as lts
+use Rattle.forward_dynamics.proofs.forward_dynamics.forward_dynamics.Reads as forward-dynamics-reads
+use Rattle.mass_matrix.proofs.mass_matrix.mass_matrix.Reads as mass-matrix-reads
+
+enum-known-c : tie.Need-enum-known-c
+enum-known-c c = search needs
+
+mass-matrix-requires : tie.Need-mass-matrix-requires
+mass-matrix-requires c κs = search needs
+
+enum-known-c-2 : tie.Need-enum-known-c-2
+enum-known-c-2 c = search needs
+
+forward-dynamics-requires : tie.Need-forward-dynamics-requires
+forward-dynamics-requires c κs = search needs
+
+same-length : tie.Need-same-length
+same-length c = search needs
+
+same-length-2 : tie.Need-same-length-2
+same-length-2 c = search needs
+
+returns : tie.Need-returns
+returns c = let b4 = c .before .before .before .before in let b8 = b4 .before .before .before .before in rw (b8 .c .given .1) (b4 .mass-matrix .ensures)
+
+same-length-3 : tie.Need-same-length-3
+same-length-3 c = search needs
+
+same-length-4 : tie.Need-same-length-4
+same-length-4 c = search needs
+
+returns-2 : tie.Need-returns-2
+returns-2 c = let b4 = c .before .before .before .before in let b8 = b4 .before .before .before .before in rw (b8 .c2 .given .1) (b4 .forward-dynamics .ensures)
+
+pub whole-spec : {M : Type 1} → statement M
+whole-spec =
+    tie.close
+    (tie.spec
+    enum-known-c
+    mass-matrix-requires
+    enum-known-c-2
+    forward-dynamics-requires
+    same-length
+    same-length-2
+    returns
+    same-length-3
+    same-length-4
+    returns-2)

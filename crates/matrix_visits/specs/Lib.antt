@@ -1,0 +1,5 @@
+pub mod Plan
+pub mod Composite
+pub mod Walk
+pub mod Kernel
+pub mod Places
