@@ -5,10 +5,9 @@ ghost use lib.ListN.{length};
 ghost use Rattle.calls.specs.Position.{startOf};
 ghost use Rattle.dynamics.specs.Calculation.{workOf, inputsBy};
 ghost use Rattle.calculations.specs.Make.{inPortions, begunIn, onceOf, timesOf, madeOf, madeBy};
-use arm::model::Model;
 use calls::position::Answer;
 use calls::position::Position;
-use dynamics::calculation;
+use dynamics;
 use dynamics::calculation::Calculation;
 
 // So many times on the same buffers, or the portions alone, from this position.
@@ -27,7 +26,12 @@ pub struct Last {
 fn portions<'a>(
     from: Answer,
     c: Calculation,
-    m: Model,
+    n: usize,
+    parents: &'a [u8; 32],
+    kinds: &'a [u8; 32],
+    origins: &'a [f64; 224],
+    axes: &'a [f64; 96],
+    links: &'a [f64; 330],
     q: &'a [f64],
     qd: &'a [f64],
     forces: &'a [f64],
@@ -46,10 +50,15 @@ fn portions<'a>(
     while k < budgets.len() {
         let position = answer.position;
         let budget = budgets[k] as usize;
-        answer = calculation::portion(
+        answer = dynamics::portion(
             position,
             c,
-            m,
+            n,
+            parents,
+            kinds,
+            origins,
+            axes,
+            links,
             q,
             qd,
             forces,
@@ -68,7 +77,12 @@ fn portions<'a>(
 // A start, and where that is not refused a portion for each budget.
 fn divided<'a>(
     c: Calculation,
-    m: Model,
+    n: usize,
+    parents: &'a [u8; 32],
+    kinds: &'a [u8; 32],
+    origins: &'a [f64; 224],
+    axes: &'a [f64; 96],
+    links: &'a [f64; 330],
     q: &'a [f64],
     qd: &'a [f64],
     forces: &'a [f64],
@@ -82,7 +96,7 @@ fn divided<'a>(
     requires { ⌜ (length (now budgets) ≤ 4096) × (length (now counts) ≡ 4096) ⌝ }
     ensures { λ r. ⌜ (madeBy r (now (counts .exit)) (now (ws .exit)) (now (out .exit)) ≡ begunIn (workOf c m (inputsBy (now (q .entry)) (now (qd .entry)) (now (forces .entry)) (now (loaded .entry)) (now (loads .entry)))) (now (budgets .entry)) (startOf (workOf c m (inputsBy (now (q .entry)) (now (qd .entry)) (now (forces .entry)) (now (loaded .entry)) (now (loads .entry)))) (now (ws .entry)) (now (out .entry)))) × (r .counts ≤ length (now (counts .exit))) × (length (now (counts .exit)) ≡ length (now (counts .entry))) ⌝ }
 {
-    let begun = calculation::start(c, m, q, qd, forces, loaded, loads, ws, out);
+    let begun = dynamics::start(c, n, parents, kinds, origins, axes, links, q, qd, forces, loaded, loads, ws, out);
     let position = begun.position;
     if position.closed {
         return Last {
@@ -93,7 +107,12 @@ fn divided<'a>(
     portions(
         begun,
         c,
-        m,
+        n,
+        parents,
+        kinds,
+        origins,
+        axes,
+        links,
         q,
         qd,
         forces,
@@ -109,7 +128,12 @@ fn divided<'a>(
 // Where no budget is given, the undivided call; else a start and its portions, apart, so that the undivided call copies the model once.
 fn once<'a>(
     c: Calculation,
-    m: Model,
+    n: usize,
+    parents: &'a [u8; 32],
+    kinds: &'a [u8; 32],
+    origins: &'a [f64; 224],
+    axes: &'a [f64; 96],
+    links: &'a [f64; 330],
     q: &'a [f64],
     qd: &'a [f64],
     forces: &'a [f64],
@@ -124,17 +148,22 @@ fn once<'a>(
     ensures { λ r. ⌜ (madeBy r (now (counts .exit)) (now (ws .exit)) (now (out .exit)) ≡ onceOf (workOf c m (inputsBy (now (q .entry)) (now (qd .entry)) (now (forces .entry)) (now (loaded .entry)) (now (loads .entry)))) (now (budgets .entry)) (now (ws .entry)) (now (out .entry))) × (r .counts ≤ length (now (counts .exit))) × (length (now (counts .exit)) ≡ length (now (counts .entry))) ⌝ }
 {
     if budgets.len() == 0 {
-        let answer = calculation::whole(c, m, q, qd, forces, loaded, loads, ws, out);
+        let answer = dynamics::whole(c, n, parents, kinds, origins, axes, links, q, qd, forces, loaded, loads, ws, out);
         counts[0] = answer.visits as u64;
         return Last { counts: 1, answer };
     }
-    divided(c, m, q, qd, forces, loaded, loads, budgets, counts, ws, out)
+    divided(c, n, parents, kinds, origins, axes, links, q, qd, forces, loaded, loads, budgets, counts, ws, out)
 }
 
 fn times<'a>(
     count: u64,
     c: Calculation,
-    m: Model,
+    n: usize,
+    parents: &'a [u8; 32],
+    kinds: &'a [u8; 32],
+    origins: &'a [f64; 224],
+    axes: &'a [f64; 96],
+    links: &'a [f64; 330],
     q: &'a [f64],
     qd: &'a [f64],
     forces: &'a [f64],
@@ -148,10 +177,10 @@ fn times<'a>(
     requires { ⌜ (length (now budgets) ≤ 4096) × (length (now counts) ≡ 4096) ⌝ }
     ensures { λ r. ⌜ (madeBy r (now (counts .exit)) (now (ws .exit)) (now (out .exit)) ≡ timesOf (workOf c m (inputsBy (now (q .entry)) (now (qd .entry)) (now (forces .entry)) (now (loaded .entry)) (now (loads .entry)))) (now (budgets .entry)) count (now (ws .entry)) (now (out .entry))) × (r .counts ≤ length (now (counts .exit))) × (length (now (counts .exit)) ≡ length (now (counts .entry))) ⌝ }
 {
-    let mut last = once(c, m, q, qd, forces, loaded, loads, budgets, counts, ws, out);
+    let mut last = once(c, n, parents, kinds, origins, axes, links, q, qd, forces, loaded, loads, budgets, counts, ws, out);
     let mut left = count;
     while 1 < left {
-        last = once(c, m, q, qd, forces, loaded, loads, budgets, counts, ws, out);
+        last = once(c, n, parents, kinds, origins, axes, links, q, qd, forces, loaded, loads, budgets, counts, ws, out);
         left -= 1;
     }
     last
@@ -160,7 +189,12 @@ fn times<'a>(
 pub fn make<'a>(
     how: How,
     c: Calculation,
-    m: Model,
+    n: usize,
+    parents: &'a [u8; 32],
+    kinds: &'a [u8; 32],
+    origins: &'a [f64; 224],
+    axes: &'a [f64; 96],
+    links: &'a [f64; 330],
     q: &'a [f64],
     qd: &'a [f64],
     forces: &'a [f64],
@@ -178,7 +212,12 @@ pub fn make<'a>(
         How::Times(count) => times(
             count,
             c,
-            m,
+            n,
+            parents,
+            kinds,
+            origins,
+            axes,
+            links,
             q,
             qd,
             forces,
@@ -194,7 +233,12 @@ pub fn make<'a>(
             portions(
                 from,
                 c,
-                m,
+                n,
+                parents,
+                kinds,
+                origins,
+                axes,
+                links,
                 q,
                 qd,
                 forces,

@@ -83,7 +83,12 @@ fn put_answer<'a>(
     let last = make(
         how,
         c,
-        m,
+        m.n,
+        &m.parents,
+        &m.kinds,
+        &m.origins,
+        &m.axes,
+        &m.links,
         q,
         qd,
         forces,

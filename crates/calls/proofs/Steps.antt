@@ -1,12 +1,15 @@
 -- Visits in a row, of any calculation. Assumes nothing.
-use mathlib.Core.Bool.{Bool, true, false}
+use mathlib.Core.Bool.{Bool, true, false, true≢false}
 use mathlib.Core.List.{List}
 use mathlib.Core.Path.{_≡_, refl, sym, ap, _∙_}
 use Prim.Native.Nat.{ℕ, zero, suc, _+_, _-_, _≤_, _<_}
 use native.Mathlib.Omega.{arith}
+use borrow.Author.Tests.{ltb-true, ltb-false}
+use lib.Dec.{ltb}
 use lib.Ieee.{Float}
 use Rattle.calls.specs.declared.position.Outcome.{Outcome}
-use Rattle.calls.specs.Position.{State, advancedBy, closing, landed, stepBy, iterate}
+use Rattle.calls.specs.Position.{State, ended, advancedBy, closing, landed, stepBy, iterate, opening}
+use Rattle.calls.specs.declared.position.Position.{Position}
 use Rattle.calls.specs.declared.position.Progress.{Progress}
 
 abbrev pub visits : State → ℕ
@@ -85,6 +88,36 @@ module _ (visit : ℕ → List Float → Outcome × List Float) (results : ℕ) 
       ∙ ap (λ (k : ℕ). iterate (stepBy visit results) k s) e
       ∙ iterate-add (stepBy visit results) j i s
       ∙ run-closed i (iterate (stepBy visit results) j s) d
+
+-- A run as a loop makes it: what is left from a state on gives what the whole run gives.
+module _ (visit : ℕ → List Float → Outcome × List Float) (results budget left : ℕ) (s₀ s : State) (ahead : iterate (stepBy visit results) left s ≡ iterate (stepBy visit results) budget s₀) where
+  -- a closed state is the last, and so is one with nothing left
+  pub run-stops : closed s ≡ true → s ≡ iterate (stepBy visit results) budget s₀
+  run-stops e = sym (run-closed visit results left s e) ∙ ahead
+
+  pub run-spent : left ≡ 0 → s ≡ iterate (stepBy visit results) budget s₀
+  unfolding iterate
+  run-spent e = rw e at ahead
+
+  -- an open one goes on by a visit
+  pub run-on : {s′ : State} → 0 < left → closed s ≡ false → s′ ≡ landed results s (visit (visits s) (s .1)) → iterate (stepBy visit results) (left - 1) s′ ≡ iterate (stepBy visit results) budget s₀
+  run-on h c e = ap (iterate (stepBy visit results) (left - 1)) (e ∙ sym (step-open visit results s c)) ∙ iterate-next (stepBy visit results) left s h ∙ ahead
+
+-- no visit is taken back, from a position on
+pub run-ahead : (visit : ℕ → List Float → Outcome × List Float) (results budget : ℕ) (from : Position) (ws out : List Float) {s : Progress} {ws′ out′ : List Float}
+    → (s, ws′, out′) ≡ iterate (stepBy visit results) budget (opening from, ws, out) → from .visits ≤ s .position .visits
+run-ahead visit results budget from ws out e = rw (← e) at (run-forth visit results budget (opening from, ws, out))
+
+-- where the last visit ends, one that leaves the position open leaves a visit to make
+pub still-within : (visit : ℕ → List Float → Outcome × List Float) (all : ℕ) → ((k : ℕ) (ws : List Float) → k + 1 ≡ all → ended (visit k ws .0) ≡ true)
+    → (s : Position) (ws : List Float) {o : Outcome} {ws′ : List Float} {t : Progress} → s .visits < all → (o, ws′) ≡ visit (s .visits) ws → t ≡ advancedBy s o
+    → t .position .closed ≡ false → t .position .visits < all
+unfolding advancedBy
+still-within visit all ends s ws {o = o} h e a = rw a (λ c. go c (ltb (s .visits + 1) all) refl)
+  where
+    go : ended o ≡ false → (b : Bool) → ltb (s .visits + 1) all ≡ b → s .visits + 1 < all
+    go c true t = ltb-true (s .visits + 1) all t
+    go c false t = let f : all ≤ s .visits + 1 = ltb-false (s .visits + 1) all t in absurd (true≢false (sym (ends (s .visits) ws (omega arith)) ∙ ap (λ (x : Outcome × List Float). ended (x .0)) (sym e) ∙ c))
 
 -- a visit, put together from what it gave, what closing made of the buffers and the position after it
 pub landed-is : (results : ℕ) (s : State) {e : Outcome × List Float} {o : Outcome} {ws ws′ out′ : List Float} {t : Progress}

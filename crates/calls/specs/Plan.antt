@@ -1,11 +1,13 @@
 -- The sizes of one calculation. Definitions only.
-use mathlib.Core.Bool.{Bool, cond}
+use mathlib.Core.Bool.{Bool, false, cond}
 use mathlib.Core.List.{List}
 use mathlib.Core.Path.{_≡_}
-use Prim.Native.Nat.{ℕ, _+_, _≤_}
+use Prim.Native.Nat.{ℕ, _+_, _-_, _≤_, _<_}
 use Rattle.arm.specs.Model.{Good}
 use Rattle.arm.specs.Topology.{activesOf, activeNumbers}
+use Rattle.calls.specs.Position.{visitsOf}
 use Rattle.calls.specs.declared.plan.Plan.{Plan}
+use Rattle.calls.specs.declared.position.Position.{Position}
 
 -- G is a, or a + 6 with a floating root
 unfoldable pub planBy : Bool → ℕ → ℕ → Plan
@@ -23,3 +25,7 @@ pub record Fit (p : Plan) (parents kinds numbers : List ℕ) : Type 0 where
   pub led : p .lead ≤ 6
   pub whole : (p .lead ≡ 0 → ⊥) → 6 ≤ p .lead
   pub sided : p .side ≡ p .lead + activesOf kinds (p .n)
+
+-- an open position of the matrix, else of forward dynamics, has a visit left
+abbrev pub Within : Bool → Plan → Position → Type 0
+Within matrix p s = s .closed ≡ false → s .visits < visitsOf matrix (p .n) (p .side - p .lead)

@@ -19,6 +19,7 @@ use Rattle.arm.specs.Model.{wildOf}
 use Rattle.calls.specs.Checks.{valuesVerdict, turnsVerdict, badRotation}
 use Rattle.calls.specs.Plan.{planOf}
 use Rattle.forward_visits.specs.Layout.{roomOf}
+use Rattle.forward_dynamics.specs.Inputs.{Inputs}
 
 unfoldable pub wildNumber : List Float → ℕ → Bool
 wildNumber s i = not (finite (getD s i nan))
@@ -69,17 +70,17 @@ loadsVerdict n loaded loads =
 unfoldable pub rootVerdict : Quaternion → Twist → Verdict
 rootVerdict rotation base = plainOf 22 (badRotation rotation || not (finiteOf base))
 
-unfoldable pub restVerdict : ℕ → ℕ → Quaternion → Twist → List ℕ → List Float → List Float → List Float → List ℕ → List Float → ℕ → Verdict
-restVerdict n side rotation base kinds q qd forces loaded loads out =
-    orElse (motionVerdict n kinds q qd)
-    (orElse (forcesVerdict side forces out)
-    (orElse (loadsVerdict n loaded loads)
+unfoldable pub restVerdict : ℕ → ℕ → Quaternion → Twist → List ℕ → Inputs → ℕ → Verdict
+restVerdict n side rotation base kinds i out =
+    orElse (motionVerdict n kinds (i .q) (i .qd))
+    (orElse (forcesVerdict side (i .forces) out)
+    (orElse (loadsVerdict n (i .loaded) (i .loads))
     (rootVerdict rotation base)))
 
 -- 9, 10, 11 and 12 before them
-unfoldable pub inputsVerdict : Bool → Quaternion → Twist → ℕ → List ℕ → List ℕ → List Float → List Float → List Float → List ℕ → List Float → ℕ → ℕ → Verdict
-inputsVerdict floating rotation base n parents kinds q qd forces loaded loads ws out =
+unfoldable pub inputsVerdict : Bool → Quaternion → Twist → ℕ → List ℕ → List ℕ → Inputs → ℕ → ℕ → Verdict
+inputsVerdict floating rotation base n parents kinds i ws out =
     orElse (plainOf 9 (wildOf n parents kinds))
     (orElse (plainOf 10 (ltb ws (roomOf n)))
-    (orElse (valuesVerdict 11 12 kinds n q)
-    (restVerdict n (planOf floating n kinds .side) rotation base kinds q qd forces loaded loads out)))
+    (orElse (valuesVerdict 11 12 kinds n (i .q))
+    (restVerdict n (planOf floating n kinds .side) rotation base kinds i out)))

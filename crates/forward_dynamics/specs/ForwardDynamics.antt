@@ -1,20 +1,23 @@
--- Forward dynamics as a calculation in visits: its checks and its visits (document 01). Definitions only.
+-- Forward dynamics as a calculation in visits (document 01). Definitions only.
 use mathlib.Core.Bool.{Bool, true, false}
 use mathlib.Core.List.{List}
 use mathlib.Core.Path.{_≡_}
-use Prim.Native.Nat.{ℕ, _+_, _*_, _<_}
+use Prim.Native.Nat.{ℕ, _*_}
+use lib.ListN.{length}
 use lib.Ieee.{Float}
 use Rattle.numbers.specs.declared.quaternion.Quaternion.{Quaternion}
 use Rattle.spatial.specs.Twist.{zerosOf}
 use Rattle.spatial.specs.declared.twist.Twist.{Twist}
+use Rattle.arm.specs.Model.{bundle}
 use Rattle.arm.specs.Topology.{activesOf}
 use Rattle.arm.specs.declared.model.Model.{Model}
 use Rattle.calls.specs.Position.{Work}
-use Rattle.calls.specs.declared.position.Position.{Position}
+use Rattle.calls.specs.declared.position.Outcome.{Outcome}
 use Rattle.articulated.specs.Root.{rootVelocity}
 use Rattle.calls.specs.Plan.{planOf, Fit}
 use Rattle.forward_visits.specs.Layout.{resultsPlace, Room}
 use Rattle.forward_dynamics.specs.Checks.{inputsVerdict}
+use Rattle.forward_dynamics.specs.Inputs.{Inputs}
 use Rattle.forward_visits.specs.Kernel.{visitOf}
 use Rattle.forward_dynamics.specs.declared.forward_dynamics.Mode.{Mode}
 use Rattle.forward_dynamics.specs.declared.forward_dynamics.Mode.the-variants.{Fixed, Floating}
@@ -33,30 +36,30 @@ abbrev pub baseVelocity : Mode → Twist
 baseVelocity (Fixed rotation) = zerosOf
 baseVelocity (Floating rotation base) = base
 
-unfoldable pub forwardDynamics : Mode → Model → List Float → List Float → List Float → List ℕ → List Float → Work
-forwardDynamics mode m q qd forces loaded loads =
+unfoldable pub forwardDynamics : Mode → Model → Inputs → Work
+forwardDynamics mode m i =
     record {
       matrix = false;
       floating = floats mode;
       n = m .n;
       a = activesOf (m .kinds) (m .n);
-      inputs = inputsVerdict (floats mode) (rotationOf mode) (baseVelocity mode) (m .n) (m .parents) (m .kinds) q qd forces loaded loads;
-      visit = visitOf (planOf (floats mode) (m .n) (m .kinds)) (rotationOf mode) (rootVelocity (rotationOf mode) (baseVelocity mode)) m q qd forces loaded loads;
+      inputs = inputsVerdict (floats mode) (rotationOf mode) (baseVelocity mode) (m .n) (m .parents) (m .kinds) i;
+      visit = visitOf (planOf (floats mode) (m .n) (m .kinds)) (rotationOf mode) (rootVelocity (rotationOf mode) (baseVelocity mode)) m (i .q) (i .qd) (i .forces) (i .loaded) (i .loads);
       results = resultsPlace (m .n);
     }
 
 -- ---- what the steps of the code promise each other
 
+-- the visits of a model's lists
+abbrev pub visitsBy : Plan → Quaternion → Twist → List ℕ → List ℕ → List Float → List Float → List Float → Inputs → ℕ → List Float → Outcome × List Float
+visitsBy p rotation velocity parents kinds origins axes links i = visitOf p rotation velocity (bundle (p .n) parents kinds origins axes links) (i .q) (i .qd) (i .forces) (i .loaded) (i .loads)
+
 -- the checks have passed
-pub record Ready (p : Plan) (parents kinds numbers : List ℕ) (q qd forces loaded loads ws out : ℕ) : Type 0 where
+pub record Ready (p : Plan) (parents kinds numbers : List ℕ) (i : Inputs) (ws out : ℕ) : Type 0 where
   pub fit : Fit p parents kinds numbers
   pub room : Room p ws
-  pub values : q ≡ activesOf kinds (p .n)
-  pub speeds : qd ≡ activesOf kinds (p .n)
-  pub given : forces ≡ p .side
-  pub sixes : loads ≡ 6 * loaded
+  pub values : length (i .q) ≡ activesOf kinds (p .n)
+  pub speeds : length (i .qd) ≡ activesOf kinds (p .n)
+  pub given : length (i .forces) ≡ p .side
+  pub sixes : length (i .loads) ≡ 6 * length (i .loaded)
   pub output : out ≡ p .side
-
--- an open position has a visit left
-abbrev pub Within : Plan → Position → Type 0
-Within p s = s .closed ≡ false → s .visits < p .n + p .n + p .n + 1

@@ -6,6 +6,7 @@ ghost use lib.ListN.{length};
 ghost use Rattle.arm.specs.Topology.{activesOf, activeNumbers};
 ghost use Rattle.refusals.specs.Refusals.{lowest};
 ghost use Rattle.forward_dynamics.specs.Checks.{wildNumber, lowerIf, aboveAt, wildLoad, leastTo, motionVerdict, forcesVerdict, loadsVerdict, rootVerdict, restVerdict, inputsVerdict};
+ghost use Rattle.forward_dynamics.specs.Inputs.{inputsBy};
 use arm::model;
 use arm::topology;
 use calls::checks;
@@ -166,7 +167,7 @@ fn judged_rest<'a>(
     out: usize,
 ) -> Verdict
     requires { ⌜ (now numbers ≡ activeNumbers (now kinds)) × (n ≤ 32) × (a ≡ activesOf (now kinds) n) × (length (now q) ≡ activesOf (now kinds) n) ⌝ }
-    ensures { λ v. ⌜ v ≡ restVerdict n side rotation base (now (kinds .entry)) (now (q .entry)) (now (qd .entry)) (now (forces .entry)) (now (loaded .entry)) (now (loads .entry)) out ⌝ }
+    ensures { λ v. ⌜ v ≡ restVerdict n side rotation base (now (kinds .entry)) (inputsBy (now (q .entry)) (now (qd .entry)) (now (forces .entry)) (now (loaded .entry)) (now (loads .entry))) out ⌝ }
 {
     let motion = judged_motion(n, a, kinds, numbers, q, qd);
     let given = judged_forces(side, forces, out);
@@ -196,7 +197,7 @@ pub fn judged<'a>(
     out: usize,
 ) -> Verdict
     requires { ⌜ now numbers ≡ activeNumbers (now kinds) ⌝ }
-    ensures { λ v. ⌜ v ≡ inputsVerdict floating rotation base n (now (parents .entry)) (now (kinds .entry)) (now (q .entry)) (now (qd .entry)) (now (forces .entry)) (now (loaded .entry)) (now (loads .entry)) ws out ⌝ }
+    ensures { λ v. ⌜ v ≡ inputsVerdict floating rotation base n (now (parents .entry)) (now (kinds .entry)) (inputsBy (now (q .entry)) (now (qd .entry)) (now (forces .entry)) (now (loaded .entry)) (now (loads .entry))) ws out ⌝ }
 {
     if model::wild(n, parents, kinds) {
         return Verdict::Refused(9, Place::Nothing);

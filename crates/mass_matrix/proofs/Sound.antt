@@ -1,25 +1,38 @@
 -- The mass matrix is sound: every visit keeps the workspace's length, and the root's is the one that ends. Assumes nothing.
-use mathlib.Core.Bool.{Bool, true, false}
+use mathlib.Core.Bool.{Bool, true, false, cond, true≢false}
 use mathlib.Core.List.{List}
-use mathlib.Core.Path.{_≡_, refl}
-use Prim.Native.Nat.{ℕ, _+_, _-_, _<_}
+use mathlib.Core.Path.{_≡_, refl, sym, _∙_}
+use Prim.Native.Nat.{ℕ, _+_, _-_, _*_, _<_}
 use native.Mathlib.Omega.{arith}
-use borrow.Author.Tests.{lt-ltb}
+use borrow.Author.Tests.{lt-ltb, le-ltb}
+use lib.ListN.{take, drop}
 use lib.Ieee.{Float}
+use Rattle.numbers.specs.Double.{allFinite}
 use Rattle.numbers.specs.declared.quaternion.Quaternion.{Quaternion}
+use Rattle.refusals.specs.declared.Place.the-variants.{Nothing}
 use Rattle.arm.specs.declared.model.Model.{Model}
-use Rattle.calls.specs.Position.{visitsOf, ended}
+use Rattle.calls.specs.Plan.{planBy, planOf, Within}
+use Rattle.calls.specs.Position.{visitsOf, ended, advancedBy}
 use Rattle.calls.specs.Portions.{Sound}
-use Rattle.calls.specs.declared.position.Outcome.the-variants.{Open}
-use Rattle.matrix_visits.specs.Kernel.{visitOf}
+use Rattle.calls.specs.declared.plan.Plan.{Plan}
+use Rattle.calls.specs.declared.position.Outcome.{Outcome}
+use Rattle.calls.specs.declared.position.Outcome.the-variants.{Open, Accepted, Refused}
+use Rattle.calls.specs.declared.position.Position.{Position}
+use Rattle.calls.specs.declared.position.Progress.{Progress}
+use Rattle.calls.proofs.Steps.{still-within}
+use Rattle.matrix_visits.specs.Kernel.{tested, rootVisit, visitOf}
+use Rattle.matrix_visits.specs.Plan.{matrixPlace}
 use Rattle.matrix_visits.proofs.Kept.{length-visit}
 use Rattle.mass_matrix.specs.MassMatrix.{floats, rotationOf, massMatrix}
-use Rattle.calls.specs.Plan.{planBy, planOf}
 use Rattle.mass_matrix.specs.declared.mass_matrix.Mode.{Mode}
-use Rattle.calls.specs.declared.plan.Plan.{Plan}
-use Rattle.mass_matrix.proofs.mass_matrix.Ready.{visit-open}
 
--- ---- outcomes
+tested-ends : (p : Plan) (ws : List Float) → ended (tested p ws) ≡ true
+unfolding tested ended
+tested-ends p ws = go (allFinite (take (p .side * p .side) (drop (matrixPlace (p .n)) ws)))
+  where
+    go : (b : Bool) → ended (cond b Accepted (Refused 37 Nothing)) ≡ true
+    go true = refl
+    go false = refl
 
 module _ (p : Plan) (r : Quaternion) (m : Model) (q : List Float) (at : ℕ) (ws : List Float) where
   -- a visit below the root's leaves the position open
@@ -28,12 +41,15 @@ module _ (p : Plan) (r : Quaternion) (m : Model) (q : List Float) (at : ℕ) (ws
   below-root h = rw (lt-ltb at (p .n + p .n + (p .side - p .lead)) h)
 
   -- and the root's does not
-  root-ends : at ≡ p .n + p .n + (p .side - p .lead) → ended (visitOf p r m q at ws .0) ≡ true
-  root-ends e = go (ended (visitOf p r m q at ws .0)) refl
-    where
-      go : (b : Bool) → ended (visitOf p r m q at ws .0) ≡ b → b ≡ true
-      go true f = refl
-      go false f = absurd (omega (arith, visit-open p r m q at ws f))
+  last-ends : at ≡ p .n + p .n + (p .side - p .lead) → ended (visitOf p r m q at ws .0) ≡ true
+  unfolding visitOf rootVisit
+  last-ends e = rw (le-ltb at (p .n + p .n + (p .side - p .lead)) (omega arith)) (tested-ends p _)
+
+-- after a visit that leaves it open, a position has a visit left
+pub within-after : (p : Plan) (r : Quaternion) (m : Model) (q : List Float) (s : Position) (ws : List Float) {o : Outcome} {ws′ : List Float} {t : Progress}
+    → s .visits < visitsOf true (p .n) (p .side - p .lead) → (o, ws′) ≡ visitOf p r m q (s .visits) ws → t ≡ advancedBy s o → Within true p (t .position)
+unfolding visitsOf
+within-after p r m q = still-within (visitOf p r m q) (p .n + p .n + (p .side - p .lead) + 1) (λ k ws e. last-ends p r m q k ws (omega arith))
 
 pub sound : (mode : Mode) (m : Model) (q : List Float) → Sound (massMatrix mode m q)
 unfolding massMatrix visitsOf planBy
@@ -41,6 +57,6 @@ sound mode m q =
     let p = planOf (floats mode) (m .n) (m .kinds) in
     record {
       kept = length-visit p (rotationOf mode) m q;
-      ends = λ k ws e. root-ends p (rotationOf mode) m q k ws (omega arith);
+      ends = λ k ws e. last-ends p (rotationOf mode) m q k ws (omega arith);
       waits = λ k ws h e. let o = below-root p (rotationOf mode) m q k ws (omega arith) in let z : _≡_ {A = ℕ} 0 1 = cc in omega arith;
     }

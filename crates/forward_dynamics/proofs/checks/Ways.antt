@@ -6,7 +6,6 @@ use Prim.Native.Nat.{ℕ, _*_, _/_, _%_, _≤_, _<_}
 use native.Mathlib.Omega.{arith}
 use borrow.Author.Tests.{lt-ltb, le-ltb, eq-eqb, ne-eqb, eqb-true, eqb-false}
 use lib.Dec.{eqb}
-use lib.Ieee.{Float}
 use Rattle.numbers.specs.declared.quaternion.Quaternion.{Quaternion}
 use Rattle.refusals.specs.Refusals.{plainOf, orElse}
 use Rattle.refusals.specs.declared.Place.{Place}
@@ -20,6 +19,7 @@ use Rattle.calls.specs.Checks.{valuesVerdict}
 use Rattle.calls.specs.Plan.{planBy}
 use Rattle.forward_visits.specs.Layout.{roomOf}
 use Rattle.forward_dynamics.specs.Checks.{restVerdict, inputsVerdict}
+use Rattle.forward_dynamics.specs.Inputs.{Inputs}
 use Rattle.calls.specs.declared.plan.Plan.{Plan}
 
 -- six times y, by a quotient and a remainder
@@ -33,9 +33,9 @@ six x y h = go (eqb (x / 6) y) refl
     go true t = let e = eqb-true (x / 6) y t in t ∙ sym (eq-eqb x (6 * y) (omega arith))
     go false t = let f = eqb-false (x / 6) y t in t ∙ sym (ne-eqb x (6 * y) (λ e. f (omega arith)))
 
-module _ (floating : Bool) (rotation : Quaternion) (base : Twist) (n : ℕ) (parents kinds : List ℕ) (q qd forces : List Float) (loaded : List ℕ) (loads : List Float) (ws out : ℕ) (wild : Bool) (e9 : wild ≡ wildOf n parents kinds) where
+module _ (floating : Bool) (rotation : Quaternion) (base : Twist) (n : ℕ) (parents kinds : List ℕ) (i : Inputs) (ws out : ℕ) (wild : Bool) (e9 : wild ≡ wildOf n parents kinds) where
   abbrev inputs : Verdict
-  inputs = inputsVerdict floating rotation base n parents kinds q qd forces loaded loads ws out
+  inputs = inputsVerdict floating rotation base n parents kinds i ws out
 
   pub refuses-9 : wild ≡ true → Refused 9 Nothing ≡ inputs
   unfolding inputsVerdict plainOf orElse
@@ -46,12 +46,12 @@ module _ (floating : Bool) (rotation : Quaternion) (base : Twist) (n : ℕ) (par
     unfolding inputsVerdict plainOf orElse
     refuses-10 h = rw (← e9, tame, lt-ltb _ _ h)
 
-    module _ (v : Verdict) (room : roomOf n ≤ ws) (ev : v ≡ valuesVerdict 11 12 kinds n q) where
-      pub refuses-values : (number : ℕ) (i : Place) → v ≡ Refused number i → v ≡ inputs
+    module _ (v : Verdict) (room : roomOf n ≤ ws) (ev : v ≡ valuesVerdict 11 12 kinds n (i .q)) where
+      pub refuses-values : (number : ℕ) (at : Place) → v ≡ Refused number at → v ≡ inputs
       unfolding inputsVerdict plainOf orElse
-      refuses-values number i h = rw (← e9, tame, le-ltb _ _ room, ← ev, h)
+      refuses-values number at h = rw (← e9, tame, le-ltb _ _ room, ← ev, h)
 
       pub goes-on : (a : ℕ) (p : Plan) (u : Verdict) → v ≡ Fine → a ≡ activesOf kinds n → p ≡ planBy floating n a
-          → u ≡ restVerdict n (p .side) rotation base kinds q qd forces loaded loads out → u ≡ inputs
+          → u ≡ restVerdict n (p .side) rotation base kinds i out → u ≡ inputs
       unfolding inputsVerdict plainOf orElse
       goes-on a p u h ea ep eu = rw (← e9, tame, le-ltb _ _ room, ← ev, h, ← ea, ← ep) eu
