@@ -32,8 +32,8 @@ module _ (floating : Bool) (n : ℕ) (parents kinds : List ℕ) (good : Good n p
   unfolding planBy
   side-most = omega (arith, lead-small floating, actives-le kinds n)
 
-  pub few-actives : {a : ℕ} → a ≡ activesOf kinds n → (n ≤ 32) × (a ≤ 32)
-  few-actives e = (good .tree .few, omega (arith, e, actives-le kinds n, good .tree .few))
+pub few-actives : (n : ℕ) (parents kinds : List ℕ) → Good n parents kinds → {a : ℕ} → a ≡ activesOf kinds n → (n ≤ 32) × (a ≤ 32)
+few-actives n parents kinds good e = (good .tree .few, omega (arith, e, actives-le kinds n, good .tree .few))
 
 -- a position that was judged, and a fresh one, have a visit left
 module _ (floating : Bool) (n a : ℕ) (plan : Plan) (p : Position) (e : plan ≡ planBy floating n a) where

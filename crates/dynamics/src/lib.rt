@@ -4,6 +4,7 @@ pub mod calculation;
 ghost use mathlib.Core.Path.{_≡_};
 ghost use lib.ListN.{length};
 ghost use Rattle.refusals.specs.Refusals.{orElse};
+ghost use Rattle.refusals.specs.declared.Verdict.the-variants.{Fine};
 ghost use Rattle.arm.specs.Topology.{activesOf, activeNumbers};
 ghost use Rattle.calls.specs.Plan.{planBy, Within};
 ghost use Rattle.calls.specs.Position.{positionVerdict, ran, startOf, portionOf, wholeOf};
