@@ -9,7 +9,7 @@ use Rattle.numbers.specs.Double.{_⊕_, _⊖_, _⊗_, _⊘_, bits, 0·0, 1·0, 
 use Rattle.numbers.specs.Sum.{sumTo}
 use Rattle.numbers.specs.Table.{tab}
 use Rattle.square_root.specs.SquareRoot.{rootOf}
-use Rattle.numbers.specs.Mat6.{cell, applyOf}
+use Rattle.mat6.specs.Mat6.{cell, applyOf}
 use Rattle.cholesky.specs.Cholesky.{choleskyOf, solveOf}
 use Rattle.square_root.specs.declared.Root.{Root}
 use Rattle.square_root.specs.declared.Root.the-variants.{Is, No}

@@ -5,7 +5,6 @@ ghost use Rattle.square_root.specs.SquareRoot.{rootOf};
 ghost use Rattle.spatial.specs.Wrench.{vectorOf};
 ghost use Rattle.base_solve.specs.BaseSolve.{told, rootOr, aboveTo, scaleOf, scaledOf, dividedOf, overOf, differenceOf, columnSum, normTo, sizeOf, basis, nextNorm, inverseTo, residualOf, nearOf, checkedOf, solutionOf, conditionedOf, factoredOf, baseSolve};
 use numbers::double;
-use numbers::mat6;
 use spatial::twist::Twist;
 use spatial::wrench::Wrench;
 use square_root::Root;

@@ -7,7 +7,7 @@ use lib.Ieee.{Float, nan, lt}
 use Rattle.numbers.specs.Double.{_⊗_, _⊘_, 0·0}
 use Rattle.numbers.specs.Sum.{lessTo}
 use Rattle.square_root.specs.SquareRoot.{rootOf}
-use Rattle.numbers.specs.Mat6.{cell}
+use Rattle.mat6.specs.Mat6.{cell}
 use Rattle.square_root.specs.declared.Root.{Root}
 use Rattle.square_root.specs.declared.Root.the-variants.{Is, No}
 

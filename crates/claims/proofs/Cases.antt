@@ -8,7 +8,7 @@ use Rattle.cholesky.specs.Cholesky as cholesky
 use Rattle.numbers.specs.Double as double
 use Rattle.half_turn.specs.HalfTurn as turn
 use Rattle.numbers.specs.Mat3 as mat3
-use Rattle.numbers.specs.Mat6 as mat6
+use Rattle.mat6.specs.Mat6 as mat6
 use Rattle.numbers.specs.Quaternion as quaternion
 use Rattle.square_root.specs.SquareRoot as root
 use Rattle.numbers.specs.Vec3 as vec3

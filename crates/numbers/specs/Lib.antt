@@ -4,4 +4,3 @@ pub mod Table
 pub mod Vec3
 pub mod Quaternion
 pub mod Mat3
-pub mod Mat6

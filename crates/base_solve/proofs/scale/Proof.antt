@@ -3,7 +3,7 @@ use mathlib.Core.List.{List}
 use Prim.Native.Nat.{ℕ, _-_, zero-le}
 use lib.Ieee.{Float}
 use Rattle.square_root.specs.SquareRoot.{rootOf}
-use Rattle.numbers.specs.Mat6.{cell}
+use Rattle.mat6.specs.Mat6.{cell}
 use Rattle.numbers.proofs.Filled.{Filled, none, more, full}
 use Rattle.base_solve.specs.BaseSolve.{rootOr, scaleOf}
 use borrow.Author.Needs.{needs}

@@ -3,12 +3,12 @@ use mathlib.Core.List.{List}
 use Prim.Native.Nat.{ℕ, _-_, zero-le}
 use lib.ListN.{getD}
 use lib.Ieee.{Float, nan}
 use Rattle.numbers.specs.Double.{_⊕_}
 use borrow.Author.Needs.{needs}
-use Rattle.numbers.specs.Mat6.{plusOf}
+use Rattle.mat6.specs.Mat6.{plusOf}
 use Rattle.numbers.proofs.Filled.{Filled, none, more, full}
-use Rattle.numbers.proofs.mat6.plus.Statement.{statement}
-use Rattle.numbers.proofs.mat6.plus.Tie as tie
+use Rattle.mat6.proofs.plus.Statement.{statement}
+use Rattle.mat6.proofs.plus.Tie as tie
 
 abbrev sumAt : List Float → List Float → ℕ → Float
 sumAt a b t = getD a t nan ⊕ getD b t nan

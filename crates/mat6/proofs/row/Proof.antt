@@ -1,8 +1,8 @@
 use native.Mathlib.Nat.{add-zero}
 use borrow.Author.Needs.{needs}
-use Rattle.numbers.specs.Mat6.{rowOf}
-use Rattle.numbers.proofs.mat6.row.Statement.{statement}
-use Rattle.numbers.proofs.mat6.row.Tie as tie
+use Rattle.mat6.specs.Mat6.{rowOf}
+use Rattle.mat6.proofs.row.Statement.{statement}
+use Rattle.mat6.proofs.row.Tie as tie
 
 mul-at : tie.Need-mul-at
 mul-at c = search needs

@@ -1,7 +1,7 @@
 // 6×6 matrices, row by row in 36 numbers: entry (i, j) stands at i * 6 + j. A vector is six numbers.
 ghost use mathlib.Core.Path.{_≡_};
 ghost use Prim.Native.Nat.{_<_};
-ghost use Rattle.numbers.specs.Mat6.{plusOf, rowOf, applyOf};
+ghost use Rattle.mat6.specs.Mat6.{plusOf, rowOf, applyOf};
 
 pub fn plus(a: &[f64; 36], b: &[f64; 36]) -> [f64; 36]
     ensures { λ r. ⌜ r ≡ plusOf (now (a .entry)) (now (b .entry)) ⌝ }

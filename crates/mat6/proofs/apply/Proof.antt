@@ -1,7 +1,7 @@
 use borrow.Author.Needs.{needs}
-use Rattle.numbers.specs.Mat6.{applyOf}
-use Rattle.numbers.proofs.mat6.apply.Statement.{statement}
-use Rattle.numbers.proofs.mat6.apply.Tie as tie
+use Rattle.mat6.specs.Mat6.{applyOf}
+use Rattle.mat6.proofs.apply.Statement.{statement}
+use Rattle.mat6.proofs.apply.Tie as tie
 
 row-requires : tie.Need-row-requires
 row-requires c κs = search needs
