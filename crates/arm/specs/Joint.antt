@@ -6,14 +6,14 @@ use Prim.Native.Nat.{ℕ}
 use lib.Dec.{eqb}
 use lib.Ieee.{Float, ne, le, lt}
 use Rattle.numbers.specs.Double.{_⊕_, _⊖_, _⊗_, _⊘_, bits, 0·0, 1·0, absOf, allFinite, amaxOf}
-use Rattle.numbers.specs.HalfTurn.{halfTurnOf}
-use Rattle.numbers.specs.Root.{rootOf}
+use Rattle.half_turn.specs.HalfTurn.{halfTurnOf}
+use Rattle.square_root.specs.SquareRoot.{rootOf}
 use Rattle.numbers.specs.Vec3.{dotOf, overOf}
-use Rattle.numbers.specs.declared.half_turn.HalfTurn.{HalfTurn}
-use Rattle.numbers.specs.declared.half_turn.HalfTurn.the-variants.{Of as HalfOf, OutOfRange}
+use Rattle.half_turn.specs.declared.HalfTurn.{HalfTurn}
+use Rattle.half_turn.specs.declared.HalfTurn.the-variants.{Of as HalfOf, OutOfRange}
 use Rattle.numbers.specs.declared.quaternion.Quaternion.{Quaternion}
-use Rattle.numbers.specs.declared.root.Root.{Root}
-use Rattle.numbers.specs.declared.root.Root.the-variants.{Is, No}
+use Rattle.square_root.specs.declared.Root.{Root}
+use Rattle.square_root.specs.declared.Root.the-variants.{Is, No}
 use Rattle.numbers.specs.declared.vec3.Vec3.{Vec3}
 use Rattle.spatial.specs.Frame.{turnOf, slideOf}
 use Rattle.spatial.specs.declared.frame.Frame.{Frame}

@@ -1,15 +1,13 @@
 // A joint: its motion, the rules of its axis and of its origin's rotation, and its frame (`joint.rs`).
 ghost use mathlib.Core.Path.{_≡_};
-ghost use Rattle.numbers.specs.HalfTurn.{halfTurnOf};
+ghost use Rattle.half_turn.specs.HalfTurn.{halfTurnOf};
 ghost use Rattle.arm.specs.Joint.{scaledAxis, unitAxis, keptAxis, notUnit, turnedOf, frameOf};
+use half_turn::HalfTurn;
 use numbers::double;
-use numbers::half_turn;
-use numbers::half_turn::HalfTurn;
 use numbers::quaternion::Quaternion;
-use numbers::root;
-use numbers::root::Root;
 use numbers::vec3::Vec3;
 use spatial::frame::Frame;
+use square_root::Root;
 
 pub enum Motion {
     Turn(Vec3),
@@ -33,7 +31,7 @@ pub enum Axis {
 fn scaled_axis(s: f64, v: Vec3) -> Axis
     ensures { λ r. ⌜ r ≡ scaledAxis s v ⌝ }
 {
-    let answer = root::sqrt(v.dot(v));
+    let answer = square_root::sqrt(v.dot(v));
     match answer {
         Root::Is(norm) => {
             if s <= 0.000000000001 / norm {

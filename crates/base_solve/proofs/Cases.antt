@@ -9,9 +9,9 @@ use lib.Ieee.{Float, ofBits, size, add, sub, mul, div, lt, le}
 use Rattle.numbers.specs.Double.{bits, 0·0, 0·5, 1·0, finite, absOf, maxOf, finiteTo, amaxTo}
 use Rattle.numbers.specs.Sum.{sumTo, lessTo}
 use Rattle.numbers.specs.Table.{tab}
-use Rattle.numbers.specs.Root.{rootOf}
-use Rattle.numbers.specs.Mat6.{matBy, applyOf, rowOf}
-use Rattle.numbers.specs.Cholesky.{choleskyTo, factorColumn, belowTo, lessOf, forwardTo, forwardRow, backTo, backRow, solveOf}
+use Rattle.square_root.specs.SquareRoot.{rootOf}
+use Rattle.mat6.specs.Mat6.{matBy, applyOf, rowOf}
+use Rattle.cholesky.specs.Cholesky.{choleskyTo, factorColumn, belowTo, lessOf, forwardTo, forwardRow, backTo, backRow, solveOf}
 use Rattle.spatial.specs.Twist.{ofVector}
 use Rattle.base_solve.specs.BaseSolve.{solved, refusal, rootOr, aboveTo, scaleOf, scaledOf, dividedOf, overOf, differenceOf, columnSum, normTo, sizeOf, basis, nextNorm, inverseTo, residualOf, nearOf, checkedOf, solutionOf, conditionedOf, factoredOf, baseSolve}
 

@@ -8,11 +8,11 @@ use lib.Ieee.{Float, nan, lt, le}
 use Rattle.numbers.specs.Double.{_⊕_, _⊖_, _⊗_, _⊘_, bits, 0·0, 1·0, absOf, maxOf, allFinite, amaxOf}
 use Rattle.numbers.specs.Sum.{sumTo}
 use Rattle.numbers.specs.Table.{tab}
-use Rattle.numbers.specs.Root.{rootOf}
-use Rattle.numbers.specs.Mat6.{cell, applyOf}
-use Rattle.numbers.specs.Cholesky.{choleskyOf, solveOf}
-use Rattle.numbers.specs.declared.root.Root.{Root}
-use Rattle.numbers.specs.declared.root.Root.the-variants.{Is, No}
+use Rattle.square_root.specs.SquareRoot.{rootOf}
+use Rattle.mat6.specs.Mat6.{cell, applyOf}
+use Rattle.cholesky.specs.Cholesky.{choleskyOf, solveOf}
+use Rattle.square_root.specs.declared.Root.{Root}
+use Rattle.square_root.specs.declared.Root.the-variants.{Is, No}
 use Rattle.spatial.specs.Twist.{ofVector, zerosOf}
 use Rattle.spatial.specs.declared.twist.Twist.{Twist}
 use Rattle.base_solve.specs.declared.Solved.{Solved}

@@ -1,16 +1,13 @@
 // The solve of a floating base: B = D⁻¹ A D⁻¹, B y = D⁻¹ b, x = D⁻¹ y, with document 01's tests in their order.
 ghost use mathlib.Core.Path.{_≡_};
 ghost use Prim.Native.Nat.{_<_};
-ghost use Rattle.numbers.specs.Root.{rootOf};
+ghost use Rattle.square_root.specs.SquareRoot.{rootOf};
 ghost use Rattle.spatial.specs.Wrench.{vectorOf};
 ghost use Rattle.base_solve.specs.BaseSolve.{told, rootOr, aboveTo, scaleOf, scaledOf, dividedOf, overOf, differenceOf, columnSum, normTo, sizeOf, basis, nextNorm, inverseTo, residualOf, nearOf, checkedOf, solutionOf, conditionedOf, factoredOf, baseSolve};
-use numbers::cholesky;
 use numbers::double;
-use numbers::mat6;
-use numbers::root;
-use numbers::root::Root;
 use spatial::twist::Twist;
 use spatial::wrench::Wrench;
+use square_root::Root;
 
 pub enum Solved {
     Of(Twist),
@@ -29,7 +26,7 @@ pub struct Inverse {
 fn sqrt(x: f64) -> f64
     ensures { λ r. ⌜ r ≡ rootOr (rootOf x) ⌝ }
 {
-    let s = root::sqrt(x);
+    let s = square_root::sqrt(x);
     match s {
         Root::Is(r) => r,
         Root::No => 0.0 / 0.0,

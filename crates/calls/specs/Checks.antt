@@ -6,7 +6,7 @@ use lib.Dec.{eqb}
 use lib.ListN.{length}
 use lib.Ieee.{Float}
 use Rattle.numbers.specs.Double.{finite, allFinite}
-use Rattle.numbers.specs.HalfTurn.{inRange}
+use Rattle.half_turn.specs.HalfTurn.{inRange}
 use Rattle.numbers.specs.declared.quaternion.Quaternion.{Quaternion}
 use Rattle.refusals.specs.Refusals.{lowest, namedOf, plainOf, orElse}
 use Rattle.refusals.specs.declared.Verdict.{Verdict}

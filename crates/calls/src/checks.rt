@@ -10,7 +10,6 @@ ghost use Rattle.calls.specs.Checks.{badValue, farTurn, valuesVerdict, t
 use arm::joint;
 use arm::topology;
 use numbers::double;
-use numbers::half_turn;
 use numbers::quaternion::Quaternion;
 use refusals;
 use refusals::Place;

@@ -4,13 +4,13 @@ use mathlib.Core.Path.{refl, ap₂}
 use Prim.{Unit}
 use lib.Ieee.{ofBits, toBits, sub, mul, div, le, ne, ofInt}
 use lib.ListN.{take, drop}
-use Rattle.numbers.specs.Cholesky as cholesky
+use Rattle.cholesky.specs.Cholesky as cholesky
 use Rattle.numbers.specs.Double as double
-use Rattle.numbers.specs.HalfTurn as turn
+use Rattle.half_turn.specs.HalfTurn as turn
 use Rattle.numbers.specs.Mat3 as mat3
-use Rattle.numbers.specs.Mat6 as mat6
+use Rattle.mat6.specs.Mat6 as mat6
 use Rattle.numbers.specs.Quaternion as quaternion
-use Rattle.numbers.specs.Root as root
+use Rattle.square_root.specs.SquareRoot as root
 use Rattle.numbers.specs.Vec3 as vec3
 use Rattle.refusals.specs.Refusals as refusals
 use Rattle.spatial.specs.Frame as frame

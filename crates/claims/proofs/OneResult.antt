@@ -5,8 +5,8 @@ use lib.Ieee.{Float}
 use denote.Ref.{now}
 use Rattle.calls.specs.Position.{Result}
 use Rattle.calls.specs.declared.position.Answer.{Answer}
-use Rattle.numbers.proofs.root.sqrt.Reads as sqrt
-use Rattle.numbers.proofs.half_turn.half_turn.Reads as half-turn
+use Rattle.square_root.proofs.sqrt.Reads as sqrt
+use Rattle.half_turn.proofs.half_turn.Reads as half-turn
 use Rattle.arm.proofs.build.build.Reads as build
 use Rattle.mass_matrix.proofs.mass_matrix.start.Reads as matrix-start
 use Rattle.mass_matrix.proofs.mass_matrix.portion.Reads as matrix-portion
@@ -21,7 +21,7 @@ use Rattle.claims.specs.OneResult.{OneResult}
 one-result : {A : Type 0} {x y z : A} → x ≡ z → y ≡ z → x ≡ y
 one-result d e = d ∙ sym e
 
--- the contract's first part, `rootOf`, determines the answer; that its second alone would is `one-answer` of `numbers`
+-- the contract's first part, `rootOf`, determines the answer; that its second alone would is `one-answer` of `square_root`
 pub sqrt-one : OneResult sqrt.Post (λ κs r e. r)
 sqrt-one κs a r s e f d h = one-result (d .0) (h .0)
 

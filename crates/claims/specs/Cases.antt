@@ -6,11 +6,11 @@ use Prim.Native.Nat.{ℕ, _+_, _*_}
 use lib.ListN.{length, replicate}
 use lib.Ieee.{Float, binary64, toBits}
 use Rattle.numbers.specs.Double.{_⊗_, _⊘_, bits, 0·0, 1·0, 2·0}
-use Rattle.numbers.specs.Root.{rootOf}
+use Rattle.square_root.specs.SquareRoot.{rootOf}
 use Rattle.numbers.specs.Vec3.{vecBy}
 use Rattle.numbers.specs.declared.quaternion.Quaternion.{Quaternion}
-use Rattle.numbers.specs.declared.root.Root.{Root}
-use Rattle.numbers.specs.declared.root.Root.the-variants.{Is, No}
+use Rattle.square_root.specs.declared.Root.{Root}
+use Rattle.square_root.specs.declared.Root.the-variants.{Is, No}
 use Rattle.refusals.specs.declared.Place.{Place}
 use Rattle.refusals.specs.declared.Place.the-variants.{At, Nothing}
 use Rattle.refusals.specs.declared.Verdict.{Verdict}

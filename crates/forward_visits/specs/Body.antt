@@ -2,7 +2,7 @@
 use mathlib.Core.List.{List}
 use Prim.Native.Nat.{ℕ, _+_}
 use lib.Ieee.{Float}
-use Rattle.numbers.specs.Mat6.{plusOf}
+use Rattle.mat6.specs.Mat6.{plusOf}
 use Rattle.spatial.specs.Operators.{wrenchToParent}
 use Rattle.spatial.specs.Wrench.{plusOf as wrenchPlus}
 use Rattle.spatial.specs.declared.wrench.Wrench.{Wrench}

@@ -6,7 +6,6 @@ ghost use Rattle.forward_visits.specs.Layout.{framePlace};
 ghost use Rattle.forward_visits.specs.Body.{addBody, addMoved};
 use crate::layout;
 use inertia;
-use numbers::mat6;
 use spatial::operators;
 use spatial::wrench::Wrench;
 

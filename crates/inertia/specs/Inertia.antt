@@ -9,7 +9,7 @@ use Rattle.numbers.specs.Sum.{sumTo}
 use Rattle.numbers.specs.Table.{tab}
 use Rattle.numbers.specs.Vec3.{comp, vecBy}
 use Rattle.numbers.specs.Mat3.{matBy, plusOf, minusOf, negOf, transposeOf, timesOf, turnedOf, identityBy, crossMatrixOf, cell as cell3}
-use Rattle.numbers.specs.Mat6.{cell, applyOf, matBy as matBy6}
+use Rattle.mat6.specs.Mat6.{cell, applyOf, matBy as matBy6}
 use Rattle.numbers.specs.Quaternion.{matrixOf}
 use Rattle.numbers.specs.declared.vec3.Vec3.{Vec3}
 use Rattle.numbers.specs.declared.mat3.Mat3.{Mat3}

@@ -7,7 +7,6 @@ use arm::joint::Motion;
 use numbers::double;
 use numbers::mat3;
 use numbers::mat3::Mat3;
-use numbers::mat6;
 use numbers::vec3::Vec3;
 use spatial::frame::Frame;
 use spatial::twist::Twist;

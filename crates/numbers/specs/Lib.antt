@@ -1,10 +1,6 @@
 pub mod Double
 pub mod Sum
 pub mod Table
-pub mod Root
-pub mod HalfTurn
 pub mod Vec3
 pub mod Quaternion
 pub mod Mat3
-pub mod Mat6
-pub mod Cholesky

@@ -1,9 +1,5 @@
 // The number routines. The crates above rely on them only by what they promise.
-pub mod cholesky;
 pub mod double;
-pub mod half_turn;
 pub mod mat3;
-pub mod mat6;
 pub mod quaternion;
-pub mod root;
 pub mod vec3;

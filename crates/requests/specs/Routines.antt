@@ -5,12 +5,12 @@ use mathlib.Core.Option.{Option, none, some}
 use lib.Ieee.{Float, binary64, ofBits}
 use Rattle.words.specs.Read.{Reader, give, _>>=_, _>>_, number, end}
 use Rattle.words.specs.Write.{bytes, row, doubleText}
-use Rattle.numbers.specs.Root.{rootOf}
-use Rattle.numbers.specs.HalfTurn.{halfTurnOf}
-use Rattle.numbers.specs.declared.root.Root.{Root}
-use Rattle.numbers.specs.declared.root.Root.the-variants.{Is as Root·Is, No as Root·No}
-use Rattle.numbers.specs.declared.half_turn.HalfTurn.{HalfTurn}
-use Rattle.numbers.specs.declared.half_turn.HalfTurn.the-variants.{Of, OutOfRange}
+use Rattle.square_root.specs.SquareRoot.{rootOf}
+use Rattle.half_turn.specs.HalfTurn.{halfTurnOf}
+use Rattle.square_root.specs.declared.Root.{Root}
+use Rattle.square_root.specs.declared.Root.the-variants.{Is as Root·Is, No as Root·No}
+use Rattle.half_turn.specs.declared.HalfTurn.{HalfTurn}
+use Rattle.half_turn.specs.declared.HalfTurn.the-variants.{Of, OutOfRange}
 use Rattle.requests.specs.declared.routines.Only.{Only}
 use Rattle.requests.specs.declared.routines.Only.the-variants.{Is, No}
 

@@ -6,9 +6,9 @@ ghost use lib.ListN.{length, take};
 ghost use Rattle.words.specs.Read.{wordsAt};
 ghost use Rattle.replies.specs.Replies.{room, textOf};
 ghost use Rattle.requests.specs.Routines.{onlyDouble, onlyRead, rootLine, rootRequest, halfTurnLine, halfTurnRequest};
-use numbers::half_turn::HalfTurn;
-use numbers::root::Root;
+use half_turn::HalfTurn;
 use replies::error;
+use square_root::Root;
 use words::read::Cursor;
 use words::read::Next;
 use words::read::at_end;
@@ -57,7 +57,7 @@ pub fn root(s: &[u8], c: Cursor, out: &mut [u8], at: usize) -> usize
     ensures { λ r. ⌜ (at ≤ r) × (r ≤ at + room) × (take r (now (out .exit)) ≡ take at (now (out .entry)) ++ textOf (rootRequest (wordsAt (now (s .entry)) c))) ⌝ }
 {
     match only_double(s, c) {
-        Only::Is(x) => put_root(out, at, numbers::root::sqrt(x)),
+        Only::Is(x) => put_root(out, at, square_root::sqrt(x)),
         Only::No => error(out, at),
     }
 }
@@ -83,7 +83,7 @@ pub fn half_turn(s: &[u8], c: Cursor, out: &mut [u8], at: usize) -> usize
     ensures { λ r. ⌜ (at ≤ r) × (r ≤ at + room) × (take r (now (out .exit)) ≡ take at (now (out .entry)) ++ textOf (halfTurnRequest (wordsAt (now (s .entry)) c))) ⌝ }
 {
     match only_double(s, c) {
-        Only::Is(q) => put_half_turn(out, at, numbers::half_turn::half_turn(q)),
+        Only::Is(q) => put_half_turn(out, at, half_turn::half_turn(q)),
         Only::No => error(out, at),
     }
 }

@@ -3,7 +3,7 @@ use lib.Ieee.{Float}
 use Rattle.numbers.specs.Double.{0·0}
 use Rattle.numbers.specs.Vec3.{vecBy, plusOf, scaleOf}
 use Rattle.numbers.specs.Quaternion.{rotateOf, productOf as quaternionProduct}
-use Rattle.numbers.specs.declared.half_turn.SinCos.{SinCos}
+use Rattle.half_turn.specs.declared.SinCos.{SinCos}
 use Rattle.numbers.specs.declared.vec3.Vec3.{Vec3}
 use Rattle.spatial.specs.declared.frame.Frame.{Frame}
 

@@ -1,7 +1,7 @@
 // A frame: a rotation, then a translation.
 ghost use mathlib.Core.Path.{_≡_};
 ghost use Rattle.spatial.specs.Frame.{productOf, turnOf, slideOf};
-use numbers::half_turn::SinCos;
+use half_turn::SinCos;
 use numbers::quaternion::Quaternion;
 use numbers::vec3::Vec3;
 

@@ -2,9 +2,9 @@
 use mathlib.Core.Bool.{Bool, true, cond}
 use mathlib.Core.Path.{_≡_}
 use lib.Ieee.{Float}
-use Rattle.numbers.specs.HalfTurn.{inRange, halfTurnOf}
-use Rattle.numbers.specs.declared.half_turn.HalfTurn.the-variants.{Of, OutOfRange}
-use Rattle.numbers.specs.declared.half_turn.SinCos.{SinCos}
+use Rattle.half_turn.specs.HalfTurn.{inRange, halfTurnOf}
+use Rattle.half_turn.specs.declared.HalfTurn.the-variants.{Of, OutOfRange}
+use Rattle.half_turn.specs.declared.SinCos.{SinCos}
 use Rattle.numbers.specs.declared.vec3.Vec3.{Vec3}
 use Rattle.spatial.specs.Frame.{turnOf}
 use Rattle.spatial.specs.declared.frame.Frame.{Frame}

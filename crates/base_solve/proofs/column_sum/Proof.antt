@@ -4,7 +4,7 @@ use native.Mathlib.Numerals.{add-one}
 use native.Mathlib.Omega.{arith}
 use Rattle.numbers.specs.Double.{absOf}
 use Rattle.numbers.specs.Sum.{sumTo}
-use Rattle.numbers.specs.Mat6.{cell}
+use Rattle.mat6.specs.Mat6.{cell}
 use Rattle.base_solve.specs.BaseSolve.{columnSum}
 use borrow.Author.Needs.{needs}
 use Rattle.base_solve.proofs.column_sum.Statement.{statement}

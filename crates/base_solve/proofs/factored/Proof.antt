@@ -3,7 +3,7 @@ use mathlib.Core.List.{List}
 use mathlib.Core.Bool.{Bool, true, false, _&&_}
 use lib.Ieee.{Float}
 use Rattle.numbers.specs.Double.{allFinite}
-use Rattle.numbers.specs.Cholesky.{choleskyOf}
+use Rattle.cholesky.specs.Cholesky.{choleskyOf}
 use Rattle.base_solve.specs.declared.Solved.{Solved}
 use Rattle.base_solve.specs.BaseSolve.{told, refusal, conditionedOf, factoredOf}
 use borrow.Author.Needs.{needs}

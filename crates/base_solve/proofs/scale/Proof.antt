@@ -2,8 +2,8 @@ use mathlib.Core.Path.{refl}
 use mathlib.Core.List.{List}
 use Prim.Native.Nat.{ℕ, _-_, zero-le}
 use lib.Ieee.{Float}
-use Rattle.numbers.specs.Root.{rootOf}
-use Rattle.numbers.specs.Mat6.{cell}
+use Rattle.square_root.specs.SquareRoot.{rootOf}
+use Rattle.mat6.specs.Mat6.{cell}
 use Rattle.numbers.proofs.Filled.{Filled, none, more, full}
 use Rattle.base_solve.specs.BaseSolve.{rootOr, scaleOf}
 use borrow.Author.Needs.{needs}

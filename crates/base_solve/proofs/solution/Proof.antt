@@ -3,7 +3,7 @@ use mathlib.Core.List.{List}
 use mathlib.Core.Bool.{Bool, true, false, _&&_}
 use lib.Ieee.{Float}
 use Rattle.numbers.specs.Double.{allFinite}
-use Rattle.numbers.specs.Cholesky.{solveOf}
+use Rattle.cholesky.specs.Cholesky.{solveOf}
 use Rattle.spatial.specs.Twist.{ofVector}
 use Rattle.spatial.specs.declared.twist.Twist.{Twist}
 use Rattle.base_solve.specs.BaseSolve.{solved, refusal, dividedOf, checkedOf, solutionOf}

@@ -3,7 +3,7 @@ use mathlib.Core.List.{List}
 use Prim.Native.Nat.{ℕ, _-_, _/_, _%_, zero-le}
 use lib.Ieee.{Float}
 use Rattle.numbers.specs.Double.{_⊕_, _⊗_, 0·5}
-use Rattle.numbers.specs.Mat6.{cell}
+use Rattle.mat6.specs.Mat6.{cell}
 use Rattle.numbers.proofs.Filled.{Filled, none, more, full}
 use Rattle.inertia.specs.Inertia.{averageOf}
 use borrow.Author.Needs.{needs}
