@@ -8,13 +8,10 @@ use Rattle.calls.specs.declared.position.Answer.{Answer}
 use Rattle.square_root.proofs.sqrt.Reads as sqrt
 use Rattle.half_turn.proofs.half_turn.Reads as half-turn
 use Rattle.arm.proofs.build.build.Reads as build
-use Rattle.mass_matrix.proofs.mass_matrix.start.Reads as matrix-start
-use Rattle.mass_matrix.proofs.mass_matrix.portion.Reads as matrix-portion
-use Rattle.mass_matrix.proofs.mass_matrix.mass_matrix.Reads as matrix-whole
 use Rattle.mass_matrix.proofs.column.column.Reads as column
-use Rattle.forward_dynamics.proofs.forward_dynamics.start.Reads as dynamics-start
-use Rattle.forward_dynamics.proofs.forward_dynamics.portion.Reads as dynamics-portion
-use Rattle.forward_dynamics.proofs.forward_dynamics.forward_dynamics.Reads as dynamics-whole
+use Rattle.dynamics.proofs.start.Reads as start
+use Rattle.dynamics.proofs.portion.Reads as portion
+use Rattle.dynamics.proofs.whole.Reads as whole
 use Rattle.claims.specs.OneResult.{OneResult}
 
 -- what equals one thing is one
@@ -40,20 +37,11 @@ column-one κs a r s e f = one-result
 abbrev and-workspace : Result → Answer × List Float
 and-workspace x = (x .0, x .1)
 
-pub matrix-start-one : OneResult {S = Answer × List Float} matrix-start.Post (λ κs r e. (r, now (e .1 .1 .1 .0)))
-matrix-start-one κs a r s e f d h = ap and-workspace (one-result d h)
+pub start-one : OneResult {S = Answer × List Float} start.Post (λ κs r e. (r, now (e .1 .1 .1 .1 .1 .1 .1 .1 .1 .1 .1 .1 .0)))
+start-one κs a r s e f d h = ap and-workspace (one-result d h)
 
-pub matrix-portion-one : OneResult {S = Result} matrix-portion.Post (λ κs r e. (r, now (e .1 .1 .1 .1 .0), now (e .1 .1 .1 .1 .1 .0)))
-matrix-portion-one κs a r s e f = one-result
+pub portion-one : OneResult {S = Result} portion.Post (λ κs r e. (r, now (e .1 .1 .1 .1 .1 .1 .1 .1 .1 .1 .1 .1 .1 .0), now (e .1 .1 .1 .1 .1 .1 .1 .1 .1 .1 .1 .1 .1 .1 .0)))
+portion-one κs a r s e f = one-result
 
-pub matrix-whole-one : OneResult {S = Result} matrix-whole.Post (λ κs r e. (r, now (e .1 .1 .1 .0), now (e .1 .1 .1 .1 .0)))
-matrix-whole-one κs a r s e f = one-result
-
-pub dynamics-start-one : OneResult {S = Answer × List Float} dynamics-start.Post (λ κs r e. (r, now (e .1 .1 .1 .1 .1 .1 .1 .0)))
-dynamics-start-one κs a r s e f d h = ap and-workspace (one-result d h)
-
-pub dynamics-portion-one : OneResult {S = Result} dynamics-portion.Post (λ κs r e. (r, now (e .1 .1 .1 .1 .1 .1 .1 .1 .0), now (e .1 .1 .1 .1 .1 .1 .1 .1 .1 .0)))
-dynamics-portion-one κs a r s e f = one-result
-
-pub dynamics-whole-one : OneResult {S = Result} dynamics-whole.Post (λ κs r e. (r, now (e .1 .1 .1 .1 .1 .1 .1 .0), now (e .1 .1 .1 .1 .1 .1 .1 .1 .0)))
-dynamics-whole-one κs a r s e f = one-result
+pub whole-one : OneResult {S = Result} whole.Post (λ κs r e. (r, now (e .1 .1 .1 .1 .1 .1 .1 .1 .1 .1 .1 .1 .0), now (e .1 .1 .1 .1 .1 .1 .1 .1 .1 .1 .1 .1 .1 .0)))
+whole-one κs a r s e f = one-result

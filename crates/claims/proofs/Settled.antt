@@ -1,4 +1,4 @@
--- What a visit may change, of both calculations, on any model, root and inputs. Assumes nothing.
+-- What a visit may change, of either calculation, on any model, root and inputs. Assumes nothing.
 use mathlib.Core.Bool.{false}
 use mathlib.Core.List.{List}
 use mathlib.Core.Path.{_≡_}
@@ -14,47 +14,34 @@ use Rattle.calls.specs.Plan.{planOf}
 use Rattle.calls.specs.Portions.{after}
 use Rattle.calls.specs.Position.{Work}
 use Rattle.calls.proofs.Places.{stays, never}
-use Rattle.mass_matrix.specs.MassMatrix.{floats, rotationOf, massMatrix}
-use Rattle.mass_matrix.specs.declared.mass_matrix.Mode.{Mode}
 use Rattle.matrix_visits.proofs.Places.{keeps}
-use Rattle.mass_matrix.proofs.Sound.{sound as matrix-sound}
-use Rattle.forward_dynamics.specs.ForwardDynamics.{baseVelocity, forwardDynamics, floats as dynamicsFloats, rotationOf as dynamicsRotation}
-use Rattle.forward_dynamics.specs.declared.forward_dynamics.Mode.{Mode as DynamicsMode}
-use Rattle.forward_dynamics.proofs.Sound.{sound as dynamics-sound}
-use Rattle.forward_visits.proofs.Places.{keeps as dynamics-keeps}
-use Rattle.claims.specs.Settled.{matrixTable, dynamicsTable}
+use Rattle.mass_matrix.specs.MassMatrix.{massMatrix, floats, rotationOf}
+use Rattle.forward_visits.proofs.Places.{keeps as forward-keeps}
+use Rattle.forward_dynamics.specs.ForwardDynamics.{forwardDynamics, baseVelocity, floats as forwardFloats, rotationOf as forwardRotation}
+use Rattle.forward_dynamics.specs.Inputs.{Inputs}
+use Rattle.dynamics.specs.Calculation.{workOf}
+use Rattle.dynamics.specs.declared.calculation.Calculation.{Calculation}
+use Rattle.dynamics.specs.declared.calculation.Calculation.the-variants.{Matrix, Forward}
+use Rattle.dynamics.proofs.Sound.{sound}
+use Rattle.claims.specs.Settled.{tableOf}
 
-module _ (mode : Mode) (m : Model) (q : List Float) where
-  abbrev matrix : Work
-  matrix = massMatrix mode m q
+-- a visit changes no number but those of its table
+pub tabled : (c : Calculation) (m : Model) (i : Inputs) → Tabled (workOf c m i) (tableOf c m)
+unfolding massMatrix forwardDynamics
+tabled (Matrix mode) m i = record { sets = keeps (planOf (floats mode) (m .n) (m .kinds)) (rotationOf mode) m (i .q) }
+tabled (Forward mode) m i =
+    let rotation = forwardRotation mode in
+    record { sets = forward-keeps (planOf (forwardFloats mode) (m .n) (m .kinds)) rotation (rootVelocity rotation (baseVelocity mode)) m (i .q) (i .qd) (i .forces) (i .loaded) (i .loads) }
 
-  -- a visit changes no number but those of its table
-  pub matrix-tabled : Tabled matrix (matrixTable mode m)
-  unfolding massMatrix
-  matrix-tabled = record { sets = keeps (planOf (floats mode) (m .n) (m .kinds)) (rotationOf mode) m q }
+module _ (c : Calculation) (m : Model) (i : Inputs) where
+  abbrev work : Work
+  work = workOf c m i
 
   -- what was set stays until a visit that the table lists for it
-  pub matrix-stays : (ws out : List Float) (k l i : ℕ) → k ≤ l → Rests (matrixTable mode m) i k l → after matrix l ws out .0 .position .closed ≡ false
-      → getD (after matrix l ws out .1) i nan ≡ getD (after matrix k ws out .1) i nan
-  matrix-stays = stays matrix-tabled
+  pub work-stays : (ws out : List Float) (k l at : ℕ) → k ≤ l → Rests (tableOf c m) at k l → after work l ws out .0 .position .closed ≡ false
+      → getD (after work l ws out .1) at nan ≡ getD (after work k ws out .1) at nan
+  work-stays = stays (tabled c m i)
 
   -- and what no table has is never set
-  pub matrix-never : (i : ℕ) → ((k : ℕ) → Clear (matrixTable mode m k) i) → (ws out : List Float) → i < length ws → (k : ℕ) → getD (after matrix k ws out .1) i nan ≡ 0·0
-  matrix-never = never (matrix-sound mode m q) matrix-tabled
-
-module _ (mode : DynamicsMode) (m : Model) (q qd forces : List Float) (loaded : List ℕ) (loads : List Float) where
-  abbrev dynamics : Work
-  dynamics = forwardDynamics mode m q qd forces loaded loads
-
-  pub dynamics-tabled : Tabled dynamics (dynamicsTable mode m)
-  unfolding forwardDynamics
-  dynamics-tabled =
-      let rotation = dynamicsRotation mode in
-      record { sets = dynamics-keeps (planOf (dynamicsFloats mode) (m .n) (m .kinds)) rotation (rootVelocity rotation (baseVelocity mode)) m q qd forces loaded loads }
-
-  pub dynamics-stays : (ws out : List Float) (k l i : ℕ) → k ≤ l → Rests (dynamicsTable mode m) i k l → after dynamics l ws out .0 .position .closed ≡ false
-      → getD (after dynamics l ws out .1) i nan ≡ getD (after dynamics k ws out .1) i nan
-  dynamics-stays = stays dynamics-tabled
-
-  pub dynamics-never : (i : ℕ) → ((k : ℕ) → Clear (dynamicsTable mode m k) i) → (ws out : List Float) → i < length ws → (k : ℕ) → getD (after dynamics k ws out .1) i nan ≡ 0·0
-  dynamics-never = never (dynamics-sound mode m q qd forces loaded loads) dynamics-tabled
+  pub work-never : (at : ℕ) → ((k : ℕ) → Clear (tableOf c m k) at) → (ws out : List Float) → at < length ws → (k : ℕ) → getD (after work k ws out .1) at nan ≡ 0·0
+  work-never = never (sound c m i) (tabled c m i)

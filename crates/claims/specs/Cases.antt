@@ -28,6 +28,7 @@ use Rattle.calls.specs.declared.position.Outcome.the-variants as outcome
 use Rattle.mass_matrix.specs.MassMatrix.{massMatrix}
 use Rattle.mass_matrix.specs.declared.mass_matrix.Mode.the-variants as matrix
 use Rattle.forward_dynamics.specs.ForwardDynamics.{forwardDynamics}
+use Rattle.forward_dynamics.specs.Inputs.{inputsBy}
 use Rattle.forward_dynamics.specs.declared.forward_dynamics.Mode.{Mode}
 use Rattle.forward_dynamics.specs.declared.forward_dynamics.Mode.the-variants.{Fixed, Floating}
 
@@ -121,7 +122,7 @@ fixedMatrix b = let n = b .model .n in output (wholeOf (massMatrix matrix.Fixed 
 abbrev forward : Mode → Built → List Float → Told
 forward mode b forces =
     let n = b .model .n in
-    output (wholeOf (forwardDynamics mode (b .model) (zeros n) (zeros n) forces [] []) (ones (n * 96 + 64)) (ones (length forces)))
+    output (wholeOf (forwardDynamics mode (b .model) (inputsBy (zeros n) (zeros n) forces [] [])) (ones (n * 96 + 64)) (ones (length forces)))
 
 abbrev upright : Quaternion
 upright = record { w = 1·0; u = vecBy (λ i. 0·0) }

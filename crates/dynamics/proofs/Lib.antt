@@ -1,1 +1,2 @@
 mod Works
+pub mod Sound
