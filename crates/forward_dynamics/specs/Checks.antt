@@ -18,7 +18,7 @@ use Rattle.slots.specs.Slots.{wrenchAt}
 use Rattle.arm.specs.Model.{wildOf}
 use Rattle.calls.specs.Checks.{valuesVerdict, turnsVerdict, badRotation}
 use Rattle.calls.specs.Plan.{planOf}
-use Rattle.forward_visits.specs.Layout.{roomOf}
+use Rattle.forward_slots.specs.Layout.{roomOf}
 
 unfoldable pub wildNumber : List Float → ℕ → Bool
 wildNumber s i = not (finite (getD s i nan))

@@ -13,7 +13,7 @@ use Rattle.calls.specs.Position.{Work}
 use Rattle.calls.specs.declared.position.Position.{Position}
 use Rattle.articulated.specs.Root.{rootVelocity}
 use Rattle.calls.specs.Plan.{planOf, Fit}
-use Rattle.forward_visits.specs.Layout.{resultsPlace, Room}
+use Rattle.forward_slots.specs.Layout.{resultsPlace, Room}
 use Rattle.forward_dynamics.specs.Checks.{inputsVerdict}
 use Rattle.forward_visits.specs.Kernel.{visitOf}
 use Rattle.forward_dynamics.specs.declared.forward_dynamics.Mode.{Mode}

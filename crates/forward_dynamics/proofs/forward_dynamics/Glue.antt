@@ -22,7 +22,7 @@ use Rattle.calls.specs.declared.position.Answer.{Answer}
 use Rattle.articulated.specs.Root.{rootVelocity}
 use Rattle.calls.specs.Plan.{planBy}
 use Rattle.forward_dynamics.specs.Checks.{inputsVerdict}
-use Rattle.forward_visits.specs.Layout.{resultsPlace}
+use Rattle.forward_slots.specs.Layout.{resultsPlace}
 use Rattle.forward_visits.specs.Kernel.{visitOf}
 use Rattle.forward_dynamics.specs.ForwardDynamics.{floats, rotationOf, baseVelocity, forwardDynamics}
 use Rattle.forward_dynamics.specs.declared.forward_dynamics.Mode.{Mode}

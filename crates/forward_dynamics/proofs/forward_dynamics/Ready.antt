@@ -23,9 +23,9 @@ use Rattle.calls.specs.declared.position.Position.{Position}
 use Rattle.calls.specs.declared.position.Progress.{Progress}
 use Rattle.calls.proofs.Passed.{tame, not-short, as-wanted, counted, still-open}
 use Rattle.calls.specs.Plan.{planBy, planOf, Fit}
-use Rattle.forward_visits.specs.Layout.{roomOf, Room}
+use Rattle.forward_slots.specs.Layout.{roomOf, Room}
 use Rattle.forward_dynamics.specs.Checks.{motionVerdict, forcesVerdict, loadsVerdict, restVerdict, inputsVerdict}
-use Rattle.forward_visits.specs.Root.{begunOf}
+use Rattle.forward_passes.specs.Root.{begunOf}
 use Rattle.forward_visits.specs.Kernel.{outcomeOf, passVisit, visitOf}
 use Rattle.forward_dynamics.specs.ForwardDynamics.{Ready, Within}
 use Rattle.calls.specs.declared.plan.Plan.{Plan}

@@ -4,7 +4,7 @@ use Prim.Native.Nat.{ℕ, _-_}
 use native.Mathlib.Omega.{arith}
 use lib.ListN.{length}
 use lib.Ieee.{Float}
-use Rattle.forward_visits.specs.Layout.{resultsPlace}
+use Rattle.forward_slots.specs.Layout.{resultsPlace}
 use Rattle.forward_visits.specs.Kernel.{visitOf}
 use borrow.Author.Needs.{needs}
 use Rattle.calls.specs.Position.{State, stepBy, iterate}

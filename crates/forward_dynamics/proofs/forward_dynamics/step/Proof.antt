@@ -3,7 +3,7 @@ use borrow.Author.Needs.{needs}
 use Rattle.calls.specs.Position.{opening}
 use Rattle.calls.proofs.Steps.{landed-is}
 use Rattle.arm.specs.Model.{bundle}
-use Rattle.forward_visits.specs.Layout.{resultsPlace}
+use Rattle.forward_slots.specs.Layout.{resultsPlace}
 use Rattle.forward_dynamics.proofs.forward_dynamics.Ready.{within-after}
 use Rattle.forward_dynamics.proofs.forward_dynamics.step.Statement.{statement}
 use Rattle.forward_dynamics.proofs.forward_dynamics.step.Tie as tie
