@@ -21,7 +21,7 @@ fixedBy (Turn axis) = false
 fixedBy (Slide axis) = false
 fixedBy Fixed = true
 
--- of the whole inertia, with the force at a place of the forces
+-- an active joint's terms, of the whole inertia, with the force at a place of the forces
 unfoldable pub newTerm : Motion → List Float → ℕ → ℕ → List Float → Term
 newTerm motion forces j place ws = termOf motion (mat6At ws (inertiaPlace j)) (wrenchAt ws (forcePlace j)) (getD forces place nan)
 

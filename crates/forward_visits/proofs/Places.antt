@@ -23,13 +23,13 @@ use Rattle.articulated.specs.declared.second.Term.{Term}
 use Rattle.calls.specs.declared.plan.Plan.{Plan}
 use Rattle.forward_slots.specs.Layout.{inertiaPlace, forcePlace, rootInertiaPlace, rootForcePlace}
 use Rattle.forward_slots.specs.Loads.{loadsTo}
-use Rattle.forward_passes.specs.First.{putFirst, firstVisit}
 use Rattle.forward_slots.specs.Eliminate.{fixedBy, unlessRefused, keptTerm, eliminated}
-use Rattle.forward_passes.specs.Second.{addInto, propagated, secondVisit}
 use Rattle.forward_slots.specs.Term.{putTerm}
 use Rattle.forward_slots.specs.Body.{addBody, addMoved}
 use Rattle.forward_slots.specs.Whole.{addWhole}
 use Rattle.forward_slots.specs.Reduced.{addReduced}
+use Rattle.forward_passes.specs.First.{putFirst, firstVisit}
+use Rattle.forward_passes.specs.Second.{addInto, propagated, secondVisit}
 use Rattle.forward_passes.specs.Root.{putRoot, begunOf, keptBase, floatingRoot, rootVisit}
 use Rattle.forward_passes.specs.Third.{keptJoint, solvedJoint, thirdVisit}
 use Rattle.forward_visits.specs.Kernel.{passVisit, visitOf}
