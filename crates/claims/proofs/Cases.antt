@@ -31,14 +31,15 @@ use Rattle.articulated.specs.First as first
 use Rattle.articulated.specs.Root as base
 use Rattle.articulated.specs.Second as second
 use Rattle.articulated.specs.Third as third
-use Rattle.forward_visits.specs.First as firsts
+use Rattle.forward_passes.specs.First as firsts
 use Rattle.forward_visits.specs.Kernel as visits
-use Rattle.forward_visits.specs.Loads as loads
+use Rattle.forward_slots.specs.Loads as loads
 use Rattle.calls.specs.Plan as plan
-use Rattle.forward_visits.specs.Root as roots
-use Rattle.forward_visits.specs.Second as seconds
-use Rattle.forward_visits.specs.Term as terms
-use Rattle.forward_visits.specs.Third as thirds
+use Rattle.forward_passes.specs.Root as roots
+use Rattle.forward_slots.specs.Eliminate as eliminations
+use Rattle.forward_passes.specs.Second as seconds
+use Rattle.forward_slots.specs.Term as terms
+use Rattle.forward_passes.specs.Third as thirds
 use Rattle.matrix_visits.specs.Composite as composite
 use Rattle.matrix_visits.specs.Kernel as columns
 use Rattle.mass_matrix.specs.Checks as limits
@@ -76,7 +77,7 @@ unfolding inertia.fromBlocks inertia.rigidOf inertia.inertiaApply inertia.signed
 open-articulated = Unit {0}
 
 open-dynamics : Type 0
-unfolding firsts.parentTwist firsts.putFirst firsts.firstAt firsts.firstVisit visits.outcomeOf visits.passVisit visits.visitOf loads.loadTo loads.loadsTo plan.planBy roots.putRoot roots.begunOf roots.baseAt roots.keptBase roots.floatingRoot roots.rootVisit terms.termAt terms.putTerm seconds.newTerm seconds.unlessRefused seconds.keptTerm seconds.eliminated seconds.propagated seconds.secondVisit thirds.carriedAt thirds.keptJoint thirds.solvedJoint thirds.thirdVisit inputs.wildNumber inputs.leastTo inputs.motionVerdict inputs.forcesVerdict inputs.loadsVerdict inputs.rootVerdict inputs.restVerdict inputs.inputsVerdict dynamics.forwardDynamics
+unfolding firsts.parentTwist firsts.putFirst firsts.firstAt firsts.firstVisit visits.outcomeOf visits.passVisit visits.visitOf loads.loadTo loads.loadsTo plan.planBy roots.putRoot roots.begunOf roots.baseAt roots.keptBase roots.floatingRoot roots.rootVisit terms.termAt terms.putTerm eliminations.newTerm eliminations.unlessRefused eliminations.keptTerm eliminations.eliminated seconds.propagated seconds.secondVisit thirds.carriedAt thirds.keptJoint thirds.solvedJoint thirds.thirdVisit inputs.wildNumber inputs.leastTo inputs.motionVerdict inputs.forcesVerdict inputs.loadsVerdict inputs.rootVerdict inputs.restVerdict inputs.inputsVerdict dynamics.forwardDynamics
 open-dynamics = Unit {0}
 
 -- ---- in two parts, since the steps of one computation are limited

@@ -25,7 +25,7 @@ use Rattle.mass_matrix.specs.MassMatrix as matrix
 use Rattle.mass_matrix.specs.MassMatrix.{massMatrix}
 use Rattle.mass_matrix.specs.declared.mass_matrix.Mode.{Mode}
 use Rattle.mass_matrix.proofs.Ready as matrix-ready
-use Rattle.forward_visits.specs.Layout.{resultsPlace}
+use Rattle.forward_slots.specs.Layout.{resultsPlace}
 use Rattle.forward_dynamics.specs.ForwardDynamics as forward
 use Rattle.forward_dynamics.specs.ForwardDynamics.{forwardDynamics}
 use Rattle.forward_dynamics.specs.Inputs.{Inputs}

@@ -14,7 +14,7 @@ use Rattle.calls.specs.Plan.{planBy, planOf}
 use Rattle.calls.specs.declared.plan.Plan.{Plan}
 use Rattle.calls.proofs.Fits.{fits, side-most}
 use Rattle.calls.proofs.Passed.{tame, not-short, as-wanted, counted}
-use Rattle.forward_visits.specs.Layout.{roomOf, Room}
+use Rattle.forward_slots.specs.Layout.{roomOf, Room}
 use Rattle.forward_dynamics.specs.Checks.{motionVerdict, forcesVerdict, loadsVerdict, restVerdict, inputsVerdict}
 use Rattle.forward_dynamics.specs.ForwardDynamics.{Ready}
 use Rattle.forward_dynamics.specs.Inputs.{Inputs}

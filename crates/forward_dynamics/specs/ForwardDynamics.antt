@@ -15,7 +15,7 @@ use Rattle.calls.specs.Position.{Work}
 use Rattle.calls.specs.declared.position.Outcome.{Outcome}
 use Rattle.articulated.specs.Root.{rootVelocity}
 use Rattle.calls.specs.Plan.{planOf, Fit}
-use Rattle.forward_visits.specs.Layout.{resultsPlace, Room}
+use Rattle.forward_slots.specs.Layout.{resultsPlace, Room}
 use Rattle.forward_dynamics.specs.Checks.{inputsVerdict}
 use Rattle.forward_dynamics.specs.Inputs.{Inputs}
 use Rattle.forward_visits.specs.Kernel.{visitOf}

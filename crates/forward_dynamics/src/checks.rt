@@ -11,7 +11,7 @@ use arm::model;
 use arm::topology;
 use calls::checks;
 use calls::plan;
-use forward_visits::layout;
+use forward_slots::layout;
 use numbers::double;
 use numbers::quaternion::Quaternion;
 use refusals;

@@ -4,7 +4,7 @@ ghost use mathlib.Core.Path.{_≡_};
 ghost use lib.ListN.{length};
 ghost use Rattle.calls.specs.Plan.{Within};
 ghost use Rattle.calls.specs.Position.{landed, stepBy, iterate, opening};
-ghost use Rattle.forward_visits.specs.Layout.{resultsPlace};
+ghost use Rattle.forward_slots.specs.Layout.{resultsPlace};
 ghost use Rattle.forward_dynamics.specs.ForwardDynamics.{visitsBy, Ready};
 ghost use Rattle.forward_dynamics.specs.Inputs.{inputsBy};
 use calls::plan::Plan;
@@ -13,7 +13,7 @@ use calls::position::Outcome;
 use calls::position::Position;
 use calls::position::Progress;
 use forward_visits::kernel;
-use forward_visits::layout;
+use forward_slots::layout;
 use numbers::quaternion::Quaternion;
 use spatial::twist::Twist;
 

@@ -1,3 +1,2 @@
-pub mod Actives
 pub mod Kept
 pub mod Places

@@ -12,11 +12,11 @@ use Rattle.spatial.specs.declared.twist.Twist.{Twist}
 use Rattle.arm.specs.declared.model.Model.{Model}
 use Rattle.calls.specs.declared.position.Outcome.{Outcome}
 use Rattle.calls.specs.declared.position.Outcome.the-variants.{Open, Accepted, Refused}
-use Rattle.forward_visits.specs.First.{firstVisit}
-use Rattle.forward_visits.specs.Second.{secondVisit}
-use Rattle.forward_visits.specs.Root.{begunOf, rootVisit}
-use Rattle.forward_visits.specs.Third.{thirdVisit}
 use Rattle.calls.specs.declared.plan.Plan.{Plan}
+use Rattle.forward_passes.specs.First.{firstVisit}
+use Rattle.forward_passes.specs.Second.{secondVisit}
+use Rattle.forward_passes.specs.Root.{begunOf, rootVisit}
+use Rattle.forward_passes.specs.Third.{thirdVisit}
 
 -- the last visit accepts
 unfoldable pub outcomeOf : Verdict → Bool → Outcome

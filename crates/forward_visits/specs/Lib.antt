@@ -1,12 +1,2 @@
-pub mod Layout
-pub mod Loads
-pub mod First
-pub mod Term
-pub mod Body
-pub mod Whole
-pub mod Reduced
-pub mod Second
-pub mod Root
-pub mod Third
 pub mod Kernel
 pub mod Places

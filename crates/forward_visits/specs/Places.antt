@@ -9,8 +9,8 @@ use Rattle.arm.specs.Topology.{activesOf}
 use Rattle.arm.specs.declared.joint.Motion.{Motion}
 use Rattle.arm.specs.declared.model.Model.{Model}
 use Rattle.calls.specs.declared.plan.Plan.{Plan}
-use Rattle.forward_visits.specs.Layout.{framePlace, velocityPlace, biasPlace, inertiaPlace, forcePlace, termPlace, accelerationPlace, loadPlace, rootInertiaPlace, rootForcePlace, rootAccelerationPlace, resultsPlace}
-use Rattle.forward_visits.specs.Second.{fixedBy}
+use Rattle.forward_slots.specs.Layout.{framePlace, velocityPlace, biasPlace, inertiaPlace, forcePlace, termPlace, accelerationPlace, loadPlace, rootInertiaPlace, rootForcePlace, rootAccelerationPlace, resultsPlace}
+use Rattle.forward_slots.specs.Eliminate.{fixedBy}
 
 -- each joint's load
 unfoldable pub loadParts : ℕ → List Part

@@ -1,12 +1,2 @@
-// The visits of forward dynamics by the articulated-body algorithm (`forward_dynamics.rs`), both roots by one path.
-pub mod body;
-pub mod first;
+// The visits of forward dynamics in their order, and the places that each sets.
 pub mod kernel;
-pub mod layout;
-pub mod loads;
-pub mod reduced;
-pub mod root;
-pub mod second;
-pub mod term;
-pub mod third;
-pub mod whole;

@@ -17,7 +17,7 @@ use Rattle.arm.specs.Model.{wildOf}
 use Rattle.arm.specs.Topology.{activesOf}
 use Rattle.calls.specs.Checks.{valuesVerdict}
 use Rattle.calls.specs.Plan.{planBy}
-use Rattle.forward_visits.specs.Layout.{roomOf}
+use Rattle.forward_slots.specs.Layout.{roomOf}
 use Rattle.forward_dynamics.specs.Checks.{restVerdict, inputsVerdict}
 use Rattle.forward_dynamics.specs.Inputs.{Inputs}
 use Rattle.calls.specs.declared.plan.Plan.{Plan}

@@ -1,0 +1,46 @@
+use Rattle.forward_passes.specs.First.{firstAt}
+use borrow.Author.Needs.{needs}
+use Rattle.forward_passes.proofs.first.first_at.Statement.{statement}
+use Rattle.forward_passes.proofs.first.first_at.Tie as tie
+
+joint-at-requires : tie.Need-joint-at-requires
+joint-at-requires c κs = search needs
+
+value-of-requires : tie.Need-value-of-requires
+value-of-requires c κs = search needs
+
+value-of-requires-2 : tie.Need-value-of-requires-2
+value-of-requires-2 c κs = search needs
+
+parent-twist-requires : tie.Need-parent-twist-requires
+parent-twist-requires c κs = search needs
+
+mul-wrench-at : tie.Need-mul-wrench-at
+mul-wrench-at c = search needs
+
+add-wrench-at : tie.Need-add-wrench-at
+add-wrench-at c = search needs
+
+wrench-at-requires : tie.Need-wrench-at-requires
+wrench-at-requires c κs = search needs
+
+first-pass-requires : tie.Need-first-pass-requires
+first-pass-requires c κs = search needs
+
+returns : tie.Need-returns
+unfolding firstAt
+returns c = let b1 = c .before in let b2 = b1 .before in let b3 = b2 .before in let b4 = b3 .before in let b6 = b4 .before .before in rw (c .first-pass .ensures, b1 .wrench-at .ensures, b2 .parent-twist .ensures, b3 .value-of2 .ensures, b4 .value-of .ensures, b6 .joint-at .ensures .0)
+
+pub first-at-spec : {M : Type 1} → statement M
+first-at-spec =
+    tie.close
+    (tie.spec
+    joint-at-requires
+    value-of-requires
+    value-of-requires-2
+    parent-twist-requires
+    mul-wrench-at
+    add-wrench-at
+    wrench-at-requires
+    first-pass-requires
+    returns)
