@@ -14,7 +14,7 @@ use block::answers;
 use block::end_line;
 
 // What is kept from turn to turn: block[next..end] has not been looked at yet, the length of the line so far, whether it has grown too long, the current
-// model, how many bytes of `out` the turn has put out, and whether to go on.
+// model, how many bytes of `out` the turn has put out, whether the input has ended, and whether to go on.
 struct Kept {
     next: usize,
     end: usize,
@@ -22,6 +22,7 @@ struct Kept {
     over: bool,
     model: Model,
     put: usize,
+    ended: bool,
     live: bool,
 }
 
@@ -42,6 +43,9 @@ fn write(s: &[u8]) -> Put
     ensures { λ r. ⌜ r .count ≡ length (now (s .entry)) ⌝ }
 {
     let live = io::write_all(1, s);
+    if !live {
+        io::write_all(2, b"desk: the answers cannot be written\n");
+    }
     Put {
         count: s.len(),
         live,
@@ -67,11 +71,26 @@ fn begin() -> Kept
         over: false,
         model,
         put: 0,
+        ended: false,
         live: true,
     }
 }
 
-// One read, where nothing is left of the block; the new one ends at 0 where the read fails or the input has ended.
+// A signal may interrupt a read, and `libc` does not say why one failed. So each that fails is tried again a few times: what does not pass is met again at once.
+fn read(block: &mut [u8; 65536]) -> isize {
+    let mut got = libc::read(0, block);
+    let mut tries = 8u8;
+    while tries > 0 && got < 0 {
+        got = libc::read(0, block);
+        tries -= 1;
+    }
+    if got < 0 {
+        io::write_all(2, b"desk: the input cannot be read\n");
+    }
+    got
+}
+
+// A new block, where nothing is left of the last one; it ends at 0 where it cannot be read or the input has ended.
 fn fill(block: &mut [u8; 65536], k: Kept) -> Kept
     requires { ⌜ Within k ⌝ }
     ensures { λ r. ⌜ Filled k (now (block .entry)) r (now (block .exit)) ⌝ }
@@ -79,7 +98,7 @@ fn fill(block: &mut [u8; 65536], k: Kept) -> Kept
     if k.next < k.end {
         return k;
     }
-    let got = libc::read(0, block);
+    let got = read(block);
     let model = k.model;
     Kept {
         next: 0,
@@ -88,6 +107,7 @@ fn fill(block: &mut [u8; 65536], k: Kept) -> Kept
         over: k.over,
         model,
         put: k.put,
+        ended: got == 0,
         live: k.live,
     }
 }
@@ -116,11 +136,12 @@ fn serve(block: &[u8], line: &mut [u8; 65536], out: &mut [u8; 262144], k: Kept) 
         over: r.over,
         model,
         put: w.count,
+        ended: false,
         live: w.live,
     }
 }
 
-// At most one read and one write. There is no byte to answer once the input has ended.
+// At most one block and one write. There is no byte to answer once the input has ended.
 fn turn(block: &mut [u8; 65536], line: &mut [u8; 65536], out: &mut [u8; 262144], k: Kept) -> Kept
     requires { ⌜ Within k ⌝ }
     ensures { λ r. ⌜ Turned k (now (line .entry)) (ahead k (now (block .entry)) r (now (block .exit))) r (now (block .exit)) (now (line .exit)) (now (out .exit)) ⌝ }
@@ -137,6 +158,7 @@ fn turn(block: &mut [u8; 65536], line: &mut [u8; 65536], out: &mut [u8; 262144],
         over: f.over,
         model,
         put: 0,
+        ended: f.ended,
         live: false,
     }
 }
@@ -152,7 +174,7 @@ fn last(line: &[u8; 65536], out: &mut [u8; 262144], k: Kept) -> usize
 }
 
 // A proved loop has to end, and nothing says that the input does: the turns are counted down from a number that no run uses up.
-// Each turn but the last takes at least a byte.
+// Each turn but the last takes at least a byte. A line that a failed read cut short is not answered, nor one behind answers that could not be written.
 fn main() {
     let mut block = io::large_buffer();
     let mut line = io::large_buffer();
@@ -163,5 +185,7 @@ fn main() {
         k = turn(&mut block, &mut line, &mut out, k);
         turns -= 1;
     }
-    last(&line, &mut out, k);
+    if k.ended {
+        last(&line, &mut out, k);
+    }
 }

@@ -47,6 +47,9 @@ last-requires c κs = search needs
 returns : tie.Need-returns Inv-loop μ-loop
 returns c = search needs
 
+returns-2 : tie.Need-returns-2 Inv-loop μ-loop
+returns-2 c = search needs
+
 pub main-spec : {M : Type 1} → statement M
 main-spec =
     tie.close
@@ -63,4 +66,5 @@ main-spec =
     loop-less
     loop-again
     last-requires
-    returns)
+    returns
+    returns-2)
