@@ -12,11 +12,11 @@ use Rattle.arm.specs.declared.model.Model.{Model}
 use Rattle.calls.specs.Position.{Work}
 use Rattle.calculations.specs.declared.make.How.{How}
 use Rattle.calculations.specs.declared.make.How.the-variants.{Times, From}
-use Rattle.calculations.specs.declared.read.Kind.{Kind}
+use Rattle.readings.specs.declared.read.Kind.{Kind}
 use Rattle.dynamics.specs.Calculation.{workOf}
 use Rattle.calculations.specs.Make.{Made, madeOf}
-use Rattle.calculations.specs.Read.{kind, calculation, inputs, lengths, position}
-use Rattle.calculations.specs.Write.{madeText}
+use Rattle.readings.specs.Read.{kind, calculation, inputs, lengths, position}
+use Rattle.writings.specs.Write.{madeText}
 
 -- a lent buffer holds 1.0 before the call
 unfoldable pub ones : ℕ → List Float

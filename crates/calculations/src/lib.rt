@@ -1,6 +1,3 @@
-// The requests of `desk` that make a calculation, and `column`.
-pub mod column;
+// The requests of `desk` that make a calculation.
 pub mod make;
-pub mod read;
 pub mod request;
-pub mod write;

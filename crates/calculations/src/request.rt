@@ -11,23 +11,23 @@ ghost use Rattle.calculations.specs.Request.{ones, madeLine, idleBy, cal
 use arm::model::Model;
 use crate::make::How;
 use crate::make::make;
-use crate::read::Kind;
-use crate::read::LastLent;
-use crate::read::NextCalculation;
-use crate::read::NextInputs;
-use crate::read::NextKind;
-use crate::read::NextPosition;
-use crate::read::last_lent;
-use crate::read::next_calculation;
-use crate::read::next_inputs;
-use crate::read::next_kind;
-use crate::read::next_position;
-use crate::write::put_made;
 use dynamics::calculation::Calculation;
+use readings::read::Kind;
+use readings::read::LastLent;
+use readings::read::NextCalculation;
+use readings::read::NextInputs;
+use readings::read::NextKind;
+use readings::read::NextPosition;
+use readings::read::last_lent;
+use readings::read::next_calculation;
+use readings::read::next_inputs;
+use readings::read::next_kind;
+use readings::read::next_position;
 use replies::error;
 use words::read::Cursor;
 use words::read::Next;
 use words::read::next_number;
+use writings::write::put_made;
 
 fn number_buffer() -> [u64; 4096]
     ensures { λ r. ⌜ 4096 ≡ length r ⌝ }

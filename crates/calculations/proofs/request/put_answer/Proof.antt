@@ -11,7 +11,7 @@ use Rattle.calculations.proofs.request.put_answer.Reads as reads
 use Rattle.calculations.proofs.request.put_answer.Lts as lts
 use Rattle.calculations.proofs.make.make.Reads as make-reads
 use Rattle.calculations.proofs.request.fill.Reads as fill-reads
-use Rattle.calculations.proofs.write.put_made.Reads as put-made-reads
+use Rattle.writings.proofs.write.put_made.Reads as put-made-reads
 
 fill-requires : tie.Need-fill-requires
 fill-requires c κs = search needs

@@ -7,7 +7,7 @@ use Rattle.calculations.proofs.request.repeat.Statement.{statement}
 use Rattle.calculations.proofs.request.repeat.Tie as tie
 use Rattle.calculations.proofs.request.repeat.Reads as reads
 use Rattle.calculations.proofs.request.repeat.Lts as lts
-use Rattle.calculations.proofs.read.next_kind.Reads as next-kind-reads
+use Rattle.readings.proofs.read.next_kind.Reads as next-kind-reads
 use Rattle.calculations.proofs.request.calculate.Reads as calculate-reads
 use Rattle.replies.proofs.error.Reads as error-reads
 use Rattle.words.proofs.read.next_number.Reads as next-number-reads

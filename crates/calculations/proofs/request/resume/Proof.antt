@@ -6,8 +6,8 @@ use Rattle.calculations.proofs.request.resume.Statement.{statement}
 use Rattle.calculations.proofs.request.resume.Tie as tie
 use Rattle.calculations.proofs.request.resume.Reads as reads
 use Rattle.calculations.proofs.request.resume.Lts as lts
-use Rattle.calculations.proofs.read.next_kind.Reads as next-kind-reads
-use Rattle.calculations.proofs.read.next_position.Reads as next-position-reads
+use Rattle.readings.proofs.read.next_kind.Reads as next-kind-reads
+use Rattle.readings.proofs.read.next_position.Reads as next-position-reads
 use Rattle.calculations.proofs.request.calculate.Reads as calculate-reads
 use Rattle.replies.proofs.error.Reads as error-reads
 
