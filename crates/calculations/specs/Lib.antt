@@ -1,2 +1,1 @@
 pub mod Make
-pub mod Request

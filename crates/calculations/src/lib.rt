@@ -1,3 +1,2 @@
-// The requests of `desk` that make a calculation.
+// A calculation made as a request of `desk` asks for it.
 pub mod make;
-pub mod request;

@@ -8,7 +8,7 @@ use Rattle.words.specs.Write.{bytes}
 use Rattle.arm.specs.declared.model.Model.{Model as Arm}
 use Rattle.writings.specs.Column.{columnRequest}
 use Rattle.readings.specs.Read.{kindNamed}
-use Rattle.calculations.specs.Request.{calculateRequest, repeatRequest, resumeRequest}
+use Rattle.calculation_requests.specs.Request.{calculateRequest, repeatRequest, resumeRequest}
 use Rattle.calculations.specs.declared.make.How.the-variants.{Times}
 use Rattle.readings.specs.declared.read.Named.{Named}
 use Rattle.readings.specs.declared.read.Named.the-variants.{Is, No}

@@ -79,6 +79,7 @@ size-few ws = go (number ws)
     test : (n : ℕ) (rest : List (List ℕ)) (t : Bool) → ltb 4096 n ≡ t → Few ((cond t fail (give n)) rest)
     test n rest true e = tt
     test n rest false e = omega (arith, ltb-false 4096 n e)
+
     go : (o : Option (ℕ × List (List ℕ))) → Few (goOn o (λ n. cond (ltb 4096 n) fail (give n)))
     go none = tt
     go (some p) = test (p .0) (p .1) (ltb 4096 (p .0)) refl

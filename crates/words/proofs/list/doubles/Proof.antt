@@ -1,5 +1,4 @@
 -- `list::doubles` meets its contract.
-use Prim.Native.Nat.{_-_}
 use lib.Ieee.{binary64, ofBits}
 use native.Mathlib.Omega.{arith}
 use borrow.Author.Needs.{needs}

@@ -1,14 +1,14 @@
 -- `request::resume` meets its contract.
 use Prim.Native.Nat.{_-_}
 use borrow.Author.Needs.{needs}
-use Rattle.calculations.specs.Request.{resumeRequest}
-use Rattle.calculations.proofs.request.resume.Statement.{statement}
-use Rattle.calculations.proofs.request.resume.Tie as tie
-use Rattle.calculations.proofs.request.resume.Reads as reads
-use Rattle.calculations.proofs.request.resume.Lts as lts
+use Rattle.calculation_requests.specs.Request.{resumeRequest}
+use Rattle.calculation_requests.proofs.request.resume.Statement.{statement}
+use Rattle.calculation_requests.proofs.request.resume.Tie as tie
+use Rattle.calculation_requests.proofs.request.resume.Reads as reads
+use Rattle.calculation_requests.proofs.request.resume.Lts as lts
 use Rattle.readings.proofs.read.next_kind.Reads as next-kind-reads
 use Rattle.readings.proofs.read.next_position.Reads as next-position-reads
-use Rattle.calculations.proofs.request.calculate.Reads as calculate-reads
+use Rattle.calculation_requests.proofs.request.calculate.Reads as calculate-reads
 use Rattle.replies.proofs.error.Reads as error-reads
 
 next-position-requires : tie.Need-next-position-requires

@@ -5,15 +5,15 @@ use native.Mathlib.Omega.{arith}
 use borrow.Author.Needs.{needs}
 use lib.ListN.{length}
 use lib.Seq.{length-take-le}
-use Rattle.calculations.proofs.Fronts.{front-few}
-use Rattle.calculations.proofs.request.answer.Statement.{statement}
-use Rattle.calculations.proofs.request.answer.Tie as tie
-use Rattle.calculations.proofs.request.answer.Reads as reads
-use Rattle.calculations.proofs.request.answer.Lts as lts
-use Rattle.calculations.proofs.request.double_buffer.Reads as double-buffer-reads
-use Rattle.calculations.proofs.request.number_buffer.Reads as number-buffer-reads
-use Rattle.calculations.proofs.request.output_buffer.Reads as output-buffer-reads
-use Rattle.calculations.proofs.request.put_answer.Reads as put-answer-reads
+use Rattle.calculation_requests.proofs.Fronts.{front-few}
+use Rattle.calculation_requests.proofs.request.answer.Statement.{statement}
+use Rattle.calculation_requests.proofs.request.answer.Tie as tie
+use Rattle.calculation_requests.proofs.request.answer.Reads as reads
+use Rattle.calculation_requests.proofs.request.answer.Lts as lts
+use Rattle.calculation_requests.proofs.request.double_buffer.Reads as double-buffer-reads
+use Rattle.calculation_requests.proofs.request.number_buffer.Reads as number-buffer-reads
+use Rattle.calculation_requests.proofs.request.output_buffer.Reads as output-buffer-reads
+use Rattle.calculation_requests.proofs.request.put_answer.Reads as put-answer-reads
 
 number-buffer-requires : tie.Need-number-buffer-requires
 number-buffer-requires c κs = search needs

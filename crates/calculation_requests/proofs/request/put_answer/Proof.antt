@@ -4,13 +4,13 @@ use Prim.Native.Nat.{_-_}
 use native.Mathlib.Omega.{arith}
 use borrow.Author.Needs.{needs}
 use lib.Seq.{length-take-le}
-use Rattle.calculations.proofs.Fronts.{front-few}
-use Rattle.calculations.proofs.request.put_answer.Statement.{statement}
-use Rattle.calculations.proofs.request.put_answer.Tie as tie
-use Rattle.calculations.proofs.request.put_answer.Reads as reads
-use Rattle.calculations.proofs.request.put_answer.Lts as lts
+use Rattle.calculation_requests.proofs.Fronts.{front-few}
+use Rattle.calculation_requests.proofs.request.put_answer.Statement.{statement}
+use Rattle.calculation_requests.proofs.request.put_answer.Tie as tie
+use Rattle.calculation_requests.proofs.request.put_answer.Reads as reads
+use Rattle.calculation_requests.proofs.request.put_answer.Lts as lts
 use Rattle.calculations.proofs.make.make.Reads as make-reads
-use Rattle.calculations.proofs.request.fill.Reads as fill-reads
+use Rattle.calculation_requests.proofs.request.fill.Reads as fill-reads
 use Rattle.writings.proofs.write.put_made.Reads as put-made-reads
 
 fill-requires : tie.Need-fill-requires

@@ -1,10 +1,10 @@
 -- `request::idle` meets its contract.
 use Prim.Native.Nat.{_-_}
 use borrow.Author.Needs.{needs}
-use Rattle.calculations.proofs.request.idle.Statement.{statement}
-use Rattle.calculations.proofs.request.idle.Tie as tie
-use Rattle.calculations.proofs.request.idle.Reads as reads
-use Rattle.calculations.proofs.request.idle.Lts as lts
+use Rattle.calculation_requests.proofs.request.idle.Statement.{statement}
+use Rattle.calculation_requests.proofs.request.idle.Tie as tie
+use Rattle.calculation_requests.proofs.request.idle.Reads as reads
+use Rattle.calculation_requests.proofs.request.idle.Lts as lts
 
 enum-told : tie.Need-enum-told
 enum-told c = search needs

@@ -2,13 +2,13 @@
 use Prim.Native.Nat.{_-_}
 use borrow.Author.Needs.{needs}
 use borrow.Author.Tests.{lt-ltb, le-ltb, eq-eqb, ne-eqb}
-use Rattle.calculations.specs.Request.{repeatRequest}
-use Rattle.calculations.proofs.request.repeat.Statement.{statement}
-use Rattle.calculations.proofs.request.repeat.Tie as tie
-use Rattle.calculations.proofs.request.repeat.Reads as reads
-use Rattle.calculations.proofs.request.repeat.Lts as lts
+use Rattle.calculation_requests.specs.Request.{repeatRequest}
+use Rattle.calculation_requests.proofs.request.repeat.Statement.{statement}
+use Rattle.calculation_requests.proofs.request.repeat.Tie as tie
+use Rattle.calculation_requests.proofs.request.repeat.Reads as reads
+use Rattle.calculation_requests.proofs.request.repeat.Lts as lts
 use Rattle.readings.proofs.read.next_kind.Reads as next-kind-reads
-use Rattle.calculations.proofs.request.calculate.Reads as calculate-reads
+use Rattle.calculation_requests.proofs.request.calculate.Reads as calculate-reads
 use Rattle.replies.proofs.error.Reads as error-reads
 use Rattle.words.proofs.read.next_number.Reads as next-number-reads
 

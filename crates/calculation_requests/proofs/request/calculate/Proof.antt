@@ -4,19 +4,19 @@ use Prim.Native.Nat.{_-_}
 use native.Mathlib.Omega.{arith}
 use borrow.Author.Needs.{needs}
 use lib.Seq.{length-take-le}
-use Rattle.calculations.proofs.Fronts.{front-few}
-use Rattle.calculations.specs.Request.{calculateRequest}
-use Rattle.calculations.proofs.request.calculate.Statement.{statement}
-use Rattle.calculations.proofs.request.calculate.Tie as tie
-use Rattle.calculations.proofs.request.calculate.Reads as reads
-use Rattle.calculations.proofs.request.calculate.Lts as lts
+use Rattle.calculation_requests.proofs.Fronts.{front-few}
+use Rattle.calculation_requests.specs.Request.{calculateRequest}
+use Rattle.calculation_requests.proofs.request.calculate.Statement.{statement}
+use Rattle.calculation_requests.proofs.request.calculate.Tie as tie
+use Rattle.calculation_requests.proofs.request.calculate.Reads as reads
+use Rattle.calculation_requests.proofs.request.calculate.Lts as lts
 use Rattle.readings.proofs.read.last_lent.Reads as last-lent-reads
 use Rattle.readings.proofs.read.next_calculation.Reads as next-calculation-reads
 use Rattle.readings.proofs.read.next_inputs.Reads as next-inputs-reads
-use Rattle.calculations.proofs.request.answer.Reads as answer-reads
-use Rattle.calculations.proofs.request.double_buffer.Reads as double-buffer-reads
-use Rattle.calculations.proofs.request.idle.Reads as idle-reads
-use Rattle.calculations.proofs.request.number_buffer.Reads as number-buffer-reads
+use Rattle.calculation_requests.proofs.request.answer.Reads as answer-reads
+use Rattle.calculation_requests.proofs.request.double_buffer.Reads as double-buffer-reads
+use Rattle.calculation_requests.proofs.request.idle.Reads as idle-reads
+use Rattle.calculation_requests.proofs.request.number_buffer.Reads as number-buffer-reads
 use Rattle.replies.proofs.error.Reads as error-reads
 
 double-buffer-requires : tie.Need-double-buffer-requires
