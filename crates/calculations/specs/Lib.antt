@@ -1,5 +1,1 @@
-pub mod Column
 pub mod Make
-pub mod Read
-pub mod Request
-pub mod Write

@@ -1,6 +1,2 @@
-// The requests of `desk` that make a calculation, and `column`.
-pub mod column;
+// A calculation made as a request of `desk` asks for it.
 pub mod make;
-pub mod read;
-pub mod request;
-pub mod write;

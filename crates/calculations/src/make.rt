@@ -3,7 +3,8 @@ ghost use mathlib.Core.Path.{_≡_};
 ghost use Prim.Native.Nat.{_≤_};
 ghost use lib.ListN.{length};
 ghost use Rattle.calls.specs.Position.{startOf};
-ghost use Rattle.dynamics.specs.Calculation.{workOf, inputsBy};
+ghost use Rattle.forward_dynamics.specs.Inputs.{inputsBy};
+ghost use Rattle.dynamics.specs.Calculation.{workBy};
 ghost use Rattle.calculations.specs.Make.{inPortions, begunIn, onceOf, timesOf, madeOf, madeBy};
 use calls::position::Answer;
 use calls::position::Position;
@@ -43,7 +44,7 @@ fn portions<'a>(
     out: &mut [f64],
 ) -> Last
     requires { ⌜ (length (now budgets) ≤ 4096) × (length (now counts) ≡ 4096) ⌝ }
-    ensures { λ r. ⌜ (madeBy r (now (counts .exit)) (now (ws .exit)) (now (out .exit)) ≡ inPortions (workOf c m (inputsBy (now (q .entry)) (now (qd .entry)) (now (forces .entry)) (now (loaded .entry)) (now (loads .entry)))) (now (budgets .entry)) (from, now (ws .entry), now (out .entry))) × (r .counts ≤ length (now (counts .exit))) × (length (now (counts .exit)) ≡ length (now (counts .entry))) ⌝ }
+    ensures { λ r. ⌜ (madeBy r (now (counts .exit)) (now (ws .exit)) (now (out .exit)) ≡ inPortions (workBy c n (now (parents .entry)) (now (kinds .entry)) (now (origins .entry)) (now (axes .entry)) (now (links .entry)) (inputsBy (now (q .entry)) (now (qd .entry)) (now (forces .entry)) (now (loaded .entry)) (now (loads .entry)))) (now (budgets .entry)) (from, now (ws .entry), now (out .entry))) × (r .counts ≤ length (now (counts .exit))) × (length (now (counts .exit)) ≡ length (now (counts .entry))) ⌝ }
 {
     let mut answer = from;
     let mut k = 0;
@@ -94,7 +95,7 @@ fn divided<'a>(
     out: &mut [f64],
 ) -> Last
     requires { ⌜ (length (now budgets) ≤ 4096) × (length (now counts) ≡ 4096) ⌝ }
-    ensures { λ r. ⌜ (madeBy r (now (counts .exit)) (now (ws .exit)) (now (out .exit)) ≡ begunIn (workOf c m (inputsBy (now (q .entry)) (now (qd .entry)) (now (forces .entry)) (now (loaded .entry)) (now (loads .entry)))) (now (budgets .entry)) (startOf (workOf c m (inputsBy (now (q .entry)) (now (qd .entry)) (now (forces .entry)) (now (loaded .entry)) (now (loads .entry)))) (now (ws .entry)) (now (out .entry)))) × (r .counts ≤ length (now (counts .exit))) × (length (now (counts .exit)) ≡ length (now (counts .entry))) ⌝ }
+    ensures { λ r. ⌜ (madeBy r (now (counts .exit)) (now (ws .exit)) (now (out .exit)) ≡ begunIn (workBy c n (now (parents .entry)) (now (kinds .entry)) (now (origins .entry)) (now (axes .entry)) (now (links .entry)) (inputsBy (now (q .entry)) (now (qd .entry)) (now (forces .entry)) (now (loaded .entry)) (now (loads .entry)))) (now (budgets .entry)) (startOf (workBy c n (now (parents .entry)) (now (kinds .entry)) (now (origins .entry)) (now (axes .entry)) (now (links .entry)) (inputsBy (now (q .entry)) (now (qd .entry)) (now (forces .entry)) (now (loaded .entry)) (now (loads .entry)))) (now (ws .entry)) (now (out .entry)))) × (r .counts ≤ length (now (counts .exit))) × (length (now (counts .exit)) ≡ length (now (counts .entry))) ⌝ }
 {
     let begun = dynamics::start(c, n, parents, kinds, origins, axes, links, q, qd, forces, loaded, loads, ws, out);
     let position = begun.position;
@@ -145,7 +146,7 @@ fn once<'a>(
     out: &mut [f64],
 ) -> Last
     requires { ⌜ (length (now budgets) ≤ 4096) × (length (now counts) ≡ 4096) ⌝ }
-    ensures { λ r. ⌜ (madeBy r (now (counts .exit)) (now (ws .exit)) (now (out .exit)) ≡ onceOf (workOf c m (inputsBy (now (q .entry)) (now (qd .entry)) (now (forces .entry)) (now (loaded .entry)) (now (loads .entry)))) (now (budgets .entry)) (now (ws .entry)) (now (out .entry))) × (r .counts ≤ length (now (counts .exit))) × (length (now (counts .exit)) ≡ length (now (counts .entry))) ⌝ }
+    ensures { λ r. ⌜ (madeBy r (now (counts .exit)) (now (ws .exit)) (now (out .exit)) ≡ onceOf (workBy c n (now (parents .entry)) (now (kinds .entry)) (now (origins .entry)) (now (axes .entry)) (now (links .entry)) (inputsBy (now (q .entry)) (now (qd .entry)) (now (forces .entry)) (now (loaded .entry)) (now (loads .entry)))) (now (budgets .entry)) (now (ws .entry)) (now (out .entry))) × (r .counts ≤ length (now (counts .exit))) × (length (now (counts .exit)) ≡ length (now (counts .entry))) ⌝ }
 {
     if budgets.len() == 0 {
         let answer = dynamics::whole(c, n, parents, kinds, origins, axes, links, q, qd, forces, loaded, loads, ws, out);
@@ -175,7 +176,7 @@ fn times<'a>(
     out: &mut [f64],
 ) -> Last
     requires { ⌜ (length (now budgets) ≤ 4096) × (length (now counts) ≡ 4096) ⌝ }
-    ensures { λ r. ⌜ (madeBy r (now (counts .exit)) (now (ws .exit)) (now (out .exit)) ≡ timesOf (workOf c m (inputsBy (now (q .entry)) (now (qd .entry)) (now (forces .entry)) (now (loaded .entry)) (now (loads .entry)))) (now (budgets .entry)) count (now (ws .entry)) (now (out .entry))) × (r .counts ≤ length (now (counts .exit))) × (length (now (counts .exit)) ≡ length (now (counts .entry))) ⌝ }
+    ensures { λ r. ⌜ (madeBy r (now (counts .exit)) (now (ws .exit)) (now (out .exit)) ≡ timesOf (workBy c n (now (parents .entry)) (now (kinds .entry)) (now (origins .entry)) (now (axes .entry)) (now (links .entry)) (inputsBy (now (q .entry)) (now (qd .entry)) (now (forces .entry)) (now (loaded .entry)) (now (loads .entry)))) (now (budgets .entry)) count (now (ws .entry)) (now (out .entry))) × (r .counts ≤ length (now (counts .exit))) × (length (now (counts .exit)) ≡ length (now (counts .entry))) ⌝ }
 {
     let mut last = once(c, n, parents, kinds, origins, axes, links, q, qd, forces, loaded, loads, budgets, counts, ws, out);
     let mut left = count;
@@ -206,7 +207,7 @@ pub fn make<'a>(
     out: &mut [f64],
 ) -> Last
     requires { ⌜ (length (now budgets) ≤ 4096) × (length (now counts) ≡ 4096) ⌝ }
-    ensures { λ r. ⌜ (madeBy r (now (counts .exit)) (now (ws .exit)) (now (out .exit)) ≡ madeOf how (workOf c m (inputsBy (now (q .entry)) (now (qd .entry)) (now (forces .entry)) (now (loaded .entry)) (now (loads .entry)))) (now (budgets .entry)) (now (ws .entry)) (now (out .entry))) × (r .counts ≤ length (now (counts .exit))) × (length (now (counts .exit)) ≡ length (now (counts .entry))) ⌝ }
+    ensures { λ r. ⌜ (madeBy r (now (counts .exit)) (now (ws .exit)) (now (out .exit)) ≡ madeOf how (workBy c n (now (parents .entry)) (now (kinds .entry)) (now (origins .entry)) (now (axes .entry)) (now (links .entry)) (inputsBy (now (q .entry)) (now (qd .entry)) (now (forces .entry)) (now (loaded .entry)) (now (loads .entry)))) (now (budgets .entry)) (now (ws .entry)) (now (out .entry))) × (r .counts ≤ length (now (counts .exit))) × (length (now (counts .exit)) ≡ length (now (counts .entry))) ⌝ }
 {
     match how {
         How::Times(count) => times(

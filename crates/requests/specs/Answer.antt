@@ -6,12 +6,12 @@ use lib.Dec.{eqb}
 use Rattle.words.specs.Read.{wordsOf, sameOf, Reader, give, fail, _>>=_, word}
 use Rattle.words.specs.Write.{bytes}
 use Rattle.arm.specs.declared.model.Model.{Model as Arm}
-use Rattle.calculations.specs.Column.{columnRequest}
-use Rattle.calculations.specs.Read.{kindNamed}
-use Rattle.calculations.specs.Request.{calculateRequest, repeatRequest, resumeRequest}
+use Rattle.writings.specs.Column.{columnRequest}
+use Rattle.readings.specs.Read.{kindNamed}
+use Rattle.calculation_requests.specs.Request.{calculateRequest, repeatRequest, resumeRequest}
 use Rattle.calculations.specs.declared.make.How.the-variants.{Times}
-use Rattle.calculations.specs.declared.read.Named.{Named}
-use Rattle.calculations.specs.declared.read.Named.the-variants.{Is, No}
+use Rattle.readings.specs.declared.read.Named.{Named}
+use Rattle.readings.specs.declared.read.Named.the-variants.{Is, No}
 use Rattle.requests.specs.declared.answer.Name.{Name}
 use Rattle.requests.specs.declared.answer.Name.the-variants.{Model, Lend, Calculation, Column, Root, Repeat, Resume, HalfTurn, Unknown}
 use Rattle.replies.specs.Replies.{replyOf}

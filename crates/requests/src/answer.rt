@@ -10,19 +10,19 @@ use crate::models::model;
 use crate::routines::half_turn;
 use crate::routines::root;
 use arm::model::Model;
-use calculations::column::column;
+use calculation_requests::request::calculate;
+use calculation_requests::request::repeat;
+use calculation_requests::request::resume;
 use calculations::make::How;
-use calculations::read::Kind;
-use calculations::read::Named;
-use calculations::read::kind_of;
-use calculations::request::calculate;
-use calculations::request::repeat;
-use calculations::request::resume;
+use readings::read::Kind;
+use readings::read::Named;
+use readings::read::kind_of;
 use replies::Reply;
 use replies::error;
 use words::read::Cursor;
 use words::read::next_word;
 use words::read::same;
+use writings::column::column;
 
 // The request that a word names.
 pub enum Name {

@@ -6,9 +6,10 @@ use mathlib.Core.Option.{Option, none, some}
 use lib.ListN.{length, take}
 use lib.Dec.{ltb}
 use lib.Ieee.{Float, binary64, ofBits}
+use Rattle.words.specs.declared.read.Cursor.{Cursor}
 use Rattle.words.specs.declared.list.Listed.{Listed}
 use Rattle.words.specs.declared.list.Listed.the-variants.{Got, Bad}
-use Rattle.words.specs.Read.{Reader, give, fail, _>>=_, number, wordsAt}
+use Rattle.words.specs.Read.{Reader, give, fail, _>>=_, number, ReadBy}
 
 -- n numbers, each put through f
 unfoldable pub items : {A : Type 0} → (ℕ → A) → ℕ → Reader (List A)
@@ -18,11 +19,17 @@ items f (suc n) = do
   l ← items f n
   give (f v ∷ l)
 
--- A LIST: its length, at most 4,096, then that many numbers
+-- how many items a list has: at most 4,096
+unfoldable pub size : Reader ℕ
+size = do
+  n ← number
+  cond (ltb 4096 n) fail (give n)
+
+-- A LIST: its size, then that many numbers
 unfoldable pub list : {A : Type 0} → (ℕ → A) → Reader (List A)
 list f = do
-  n ← number
-  cond (ltb 4096 n) fail (items f n)
+  n ← size
+  items f n
 
 abbrev pub numbers : Reader (List ℕ)
 numbers = list (λ v. v)
@@ -31,12 +38,15 @@ numbers = list (λ v. v)
 abbrev pub doubles : Reader (List Float)
 doubles = list (ofBits binary64)
 
--- ---- what the functions have read: the first items of the lent list, and the words behind
-abbrev pub listRead : {A : Type 0} → List ℕ → Listed → List A → Option (List A × List (List ℕ))
-listRead s (Got k c) l = some (take k l, wordsAt s c)
-listRead s Bad l = none
+-- ---- what the functions have read: the first items of the lent list l
+abbrev pub listOf : {A : Type 0} → List A → Listed → Option (List A × Cursor)
+listOf l (Got k c) = some (take k l, c)
+listOf l Bad = none
 
--- at most limit items, which the lent list has, and the cursor stands in a line of n bytes
-abbrev pub ListedIn : {A : Type 0} → Listed → List A → ℕ → ℕ → Type 0
-ListedIn (Got k c) l limit n = (k ≤ limit) × (k ≤ length l) × (c .at ≤ n)
-ListedIn Bad l limit n = Unit
+-- which are at most limit
+abbrev pub Fits : {A : Type 0} → ℕ → List A → Listed → Type 0
+Fits limit l (Got k c) = (k ≤ limit) × (k ≤ length l)
+Fits limit l Bad = Unit
+
+abbrev pub ListBy : {A : Type 0} → Reader (List A) → ℕ → List ℕ → Cursor → List A → Listed → Type 0
+ListBy reader limit s c l r = ReadBy reader s c (listOf l r) × Fits limit l r

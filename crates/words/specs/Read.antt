@@ -3,6 +3,7 @@ use Prim.Native.Nat.{ℕ, suc, _+_, _-_, _*_, _≤_}
 use mathlib.Core.Bool.{Bool, true, false, not, cond}
 use mathlib.Core.List.{List, [], _∷_}
 use mathlib.Core.Option.{Option, none, some}
+use mathlib.Core.Path.{_≡_}
 use lib.ListN.{length, drop}
 use lib.Dec.{ltb, leb, eqb}
 use Rattle.words.specs.declared.read.Cursor.{Cursor}
@@ -107,16 +108,24 @@ number = do
 unfoldable pub end : Reader (Unit {0})
 end ws = cond (noWord ws) (some (tt, [])) none
 
--- ---- by a cursor in the line
+-- ---- by a cursor in the line s
 abbrev pub wordsAt : List ℕ → Cursor → List (List ℕ)
 wordsAt s c = wordsOf (drop (c .at) s)
 
--- what `next_number` has read
-abbrev pub nextRead : List ℕ → Next → Option (ℕ × List (List ℕ))
-nextRead s (NextIs v c) = some (v, wordsAt s c)
-nextRead s NextNo = none
+-- what a function answers, with the words behind its cursor,
+abbrev pub read : {A : Type 0} → List ℕ → Option (A × Cursor) → Option (A × List (List ℕ))
+read s none = none
+read s (some p) = some (p .0, wordsAt s (p .1))
 
--- the cursor stands in a line of n bytes
-abbrev pub NextIn : Next → ℕ → Type 0
-NextIn (NextIs v c) n = c .at ≤ n
-NextIn NextNo n = Unit
+-- which stands in the line
+abbrev pub Within : {A : Type 0} → List ℕ → Option (A × Cursor) → Type 0
+Within s none = Unit
+Within s (some p) = p .1 .at ≤ length s
+
+-- WHAT A FUNCTION READS from c on is what a reader takes off the words there
+abbrev pub ReadBy : {A : Type 0} → Reader A → List ℕ → Cursor → Option (A × Cursor) → Type 0
+ReadBy reader s c r = (read s r ≡ reader (wordsAt s c)) × Within s r
+
+abbrev pub nextOf : Next → Option (ℕ × Cursor)
+nextOf (NextIs v c) = some (v, c)
+nextOf NextNo = none

@@ -1,10 +1,9 @@
 // Lists of numbers and of doubles, read into a lent slice: a length, then that many words.
-ghost use mathlib.Core.Path.{_≡_};
 ghost use Prim.Native.Nat.{_≤_};
 ghost use lib.ListN.{length};
 ghost use lib.Ieee.{binary64, ofBits};
-ghost use Rattle.words.specs.Read.{wordsAt};
-ghost use Rattle.words.specs.List.{items, list, listRead, ListedIn};
+ghost use Rattle.words.specs.Read.{ReadBy, nextOf};
+ghost use Rattle.words.specs.List.{items, size, list, ListBy};
 use crate::read::Cursor;
 use crate::read::Next;
 use crate::read::double_of;
@@ -16,10 +15,23 @@ pub enum Listed {
     Bad,
 }
 
+fn next_size(s: &[u8], c: Cursor) -> Next
+    requires { ⌜ c .at ≤ length (now s) ⌝ }
+    ensures { λ r. ⌜ ReadBy size (now (s .entry)) c (nextOf r) ⌝ }
+{
+    let Next::Is(n, d) = next_number(s, c) else {
+        return Next::No;
+    };
+    if 4096 < n {
+        return Next::No;
+    }
+    Next::Is(n, d)
+}
+
 // n numbers.
 fn fill_numbers(s: &[u8], c: Cursor, n: u64, into: &mut [u64]) -> Listed
     requires { ⌜ (c .at ≤ length (now s)) × (n ≤ length (now into)) ⌝ }
-    ensures { λ r. ⌜ (listRead (now (s .entry)) r (now (into .exit)) ≡ items (λ v. v) n (wordsAt (now (s .entry)) c)) × ListedIn r (now (into .exit)) n (length (now (s .entry))) ⌝ }
+    ensures { λ r. ⌜ ListBy (items (λ v. v) n) n (now (s .entry)) c (now (into .exit)) r ⌝ }
 {
     let count = n as usize;
     let mut at = c.at;
@@ -41,23 +53,18 @@ fn fill_numbers(s: &[u8], c: Cursor, n: u64, into: &mut [u64]) -> Listed
 
 pub fn numbers(s: &[u8], c: Cursor, into: &mut [u64; 4096]) -> Listed
     requires { ⌜ c .at ≤ length (now s) ⌝ }
-    ensures { λ r. ⌜ (listRead (now (s .entry)) r (now (into .exit)) ≡ list (λ v. v) (wordsAt (now (s .entry)) c)) × ListedIn r (now (into .exit)) 4096 (length (now (s .entry))) ⌝ }
+    ensures { λ r. ⌜ ListBy (list (λ v. v)) 4096 (now (s .entry)) c (now (into .exit)) r ⌝ }
 {
-    match next_number(s, c) {
-        Next::Is(n, d) => {
-            if 4096 < n {
-                return Listed::Bad;
-            }
-            fill_numbers(s, d, n, into)
-        }
-        Next::No => Listed::Bad,
-    }
+    let Next::Is(n, d) = next_size(s, c) else {
+        return Listed::Bad;
+    };
+    fill_numbers(s, d, n, into)
 }
 
 // n doubles.
 pub fn fill_doubles(s: &[u8], c: Cursor, n: u64, into: &mut [f64]) -> Listed
     requires { ⌜ (c .at ≤ length (now s)) × (n ≤ length (now into)) ⌝ }
-    ensures { λ r. ⌜ (listRead (now (s .entry)) r (now (into .exit)) ≡ items (ofBits binary64) n (wordsAt (now (s .entry)) c)) × ListedIn r (now (into .exit)) n (length (now (s .entry))) ⌝ }
+    ensures { λ r. ⌜ ListBy (items (ofBits binary64) n) n (now (s .entry)) c (now (into .exit)) r ⌝ }
 {
     let count = n as usize;
     let mut at = c.at;
@@ -79,15 +86,10 @@ pub fn fill_doubles(s: &[u8], c: Cursor, n: u64, into: &mut [f64]) -> Listed
 
 pub fn doubles(s: &[u8], c: Cursor, into: &mut [f64; 4096]) -> Listed
     requires { ⌜ c .at ≤ length (now s) ⌝ }
-    ensures { λ r. ⌜ (listRead (now (s .entry)) r (now (into .exit)) ≡ list (ofBits binary64) (wordsAt (now (s .entry)) c)) × ListedIn r (now (into .exit)) 4096 (length (now (s .entry))) ⌝ }
+    ensures { λ r. ⌜ ListBy (list (ofBits binary64)) 4096 (now (s .entry)) c (now (into .exit)) r ⌝ }
 {
-    match next_number(s, c) {
-        Next::Is(n, d) => {
-            if 4096 < n {
-                return Listed::Bad;
-            }
-            fill_doubles(s, d, n, into)
-        }
-        Next::No => Listed::Bad,
-    }
+    let Next::Is(n, d) = next_size(s, c) else {
+        return Listed::Bad;
+    };
+    fill_doubles(s, d, n, into)
 }

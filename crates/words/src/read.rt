@@ -3,7 +3,7 @@ ghost use mathlib.Core.Path.{_≡_};
 ghost use Prim.Native.Nat.{_+_, _-_, _≤_};
 ghost use lib.ListN.{length, take, drop};
 ghost use lib.Ieee.{binary64, ofBits};
-ghost use Rattle.words.specs.Read.{runOf, isSpace, isLetter, wordsOf, firstOf, noWord, sameOf, digitOf, numberOf, number, wordsAt, nextRead, NextIn};
+ghost use Rattle.words.specs.Read.{runOf, isSpace, isLetter, wordsOf, firstOf, noWord, sameOf, digitOf, numberOf, number, wordsAt, ReadBy, nextOf};
 
 // Where reading stands in a line.
 pub struct Cursor {
@@ -155,7 +155,7 @@ pub fn double_of(bits: u64) -> f64
 
 pub fn next_number(s: &[u8], c: Cursor) -> Next
     requires { ⌜ c .at ≤ length (now s) ⌝ }
-    ensures { λ r. ⌜ (nextRead (now (s .entry)) r ≡ number (wordsAt (now (s .entry)) c)) × NextIn r (length (now (s .entry))) ⌝ }
+    ensures { λ r. ⌜ ReadBy number (now (s .entry)) c (nextOf r) ⌝ }
 {
     let w = next_word(s, c);
     let start = w.start;

@@ -9,7 +9,7 @@ use borrow.Author.Tests.{eq-eqb, ne-eqb}
 use Rattle.words.specs.Read.{wordsOf, firstOf, sameOf, give, goOn}
 use Rattle.words.proofs.read.Words.{word-first}
 use Rattle.arm.specs.declared.model.Model.{Model}
-use Rattle.calculations.specs.Read.{kindNamed}
+use Rattle.readings.specs.Read.{kindNamed}
 use Rattle.requests.specs.declared.answer.Name.{Name}
 use Rattle.replies.specs.Replies.{textOf, replyOf, behind}
 use Rattle.requests.specs.Answer.{nameOf, namedRequest, requestOf, answerOf}

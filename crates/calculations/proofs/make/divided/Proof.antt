@@ -7,7 +7,7 @@ use Rattle.calculations.proofs.make.divided.Statement.{statement}
 use Rattle.calculations.proofs.make.divided.Tie as tie
 use Rattle.calculations.proofs.make.divided.Reads as reads
 use Rattle.calculations.proofs.make.divided.Lts as lts
-use Rattle.dynamics.proofs.calculation.start.Reads as start-reads
+use Rattle.dynamics.proofs.start.Reads as start-reads
 use Rattle.calculations.proofs.make.portions.Reads as portions-reads
 
 start-requires : tie.Need-start-requires

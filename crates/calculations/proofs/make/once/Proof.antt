@@ -9,7 +9,7 @@ use Rattle.calculations.proofs.make.once.Statement.{statement}
 use Rattle.calculations.proofs.make.once.Tie as tie
 use Rattle.calculations.proofs.make.once.Reads as reads
 use Rattle.calculations.proofs.make.once.Lts as lts
-use Rattle.dynamics.proofs.calculation.whole.Reads as whole-reads
+use Rattle.dynamics.proofs.whole.Reads as whole-reads
 use Rattle.calculations.proofs.make.divided.Reads as divided-reads
 
 whole-requires : tie.Need-whole-requires

@@ -4,21 +4,22 @@ use Prim.Native.Nat.{_-_, _≤_, _<_}
 use native.Mathlib.Omega.{arith}
 use borrow.Author.Needs.{needs}
 use lib.ListN.{length, length-set}
-use Rattle.dynamics.specs.Calculation.{workOf, inputsBy}
+use Rattle.forward_dynamics.specs.Inputs.{inputsBy}
+use Rattle.dynamics.specs.Calculation.{workBy}
 use Rattle.calculations.specs.Make.{inPortions}
 use Rattle.calculations.proofs.make.Laws.{after, portion-on, portions-end}
 use Rattle.calculations.proofs.make.portions.Statement.{statement}
 use Rattle.calculations.proofs.make.portions.Tie as tie
 use Rattle.calculations.proofs.make.portions.Reads as reads
 use Rattle.calculations.proofs.make.portions.Lts as lts
-use Rattle.dynamics.proofs.calculation.portion.Reads as portion-reads
+use Rattle.dynamics.proofs.portion.Reads as portion-reads
 
 abbrev Inv-loop : tie.InvT-loop
-Inv-loop c m q qd forces loaded loads budgets counts₀ ws₀ out₀ answer₀ k₀ counts ws out answer k =
-    (k ≤ length budgets) × (length counts ≡ length counts₀) × (length ws ≡ length ws₀) × (length out ≡ length out₀) × (after (workOf c m (inputsBy q qd forces loaded loads)) budgets k counts (answer, ws, out) ≡ inPortions (workOf c m (inputsBy q qd forces loaded loads)) budgets (answer₀, ws₀, out₀))
+Inv-loop c n parents kinds origins axes links q qd forces loaded loads budgets counts₀ ws₀ out₀ answer₀ k₀ counts ws out answer k =
+    (k ≤ length budgets) × (length counts ≡ length counts₀) × (length ws ≡ length ws₀) × (length out ≡ length out₀) × (after (workBy c n parents kinds origins axes links (inputsBy q qd forces loaded loads)) budgets k counts (answer, ws, out) ≡ inPortions (workBy c n parents kinds origins axes links (inputsBy q qd forces loaded loads)) budgets (answer₀, ws₀, out₀))
 
 abbrev μ-loop : tie.MeasureT-loop
-μ-loop c m q qd forces loaded loads budgets counts₀ ws₀ out₀ answer₀ k₀ counts ws out answer k = length budgets - k
+μ-loop c n parents kinds origins axes links q qd forces loaded loads budgets counts₀ ws₀ out₀ answer₀ k₀ counts ws out answer k = length budgets - k
 
 loop-holds : tie.Need-loop-holds Inv-loop μ-loop
 loop-holds c = (search needs, refl, refl, refl, refl)

@@ -3,7 +3,8 @@ use mathlib.Core.Path.{_≡_, refl, sym, _∙_}
 use Prim.Native.Nat.{_-_, _≤_}
 use borrow.Author.Needs.{needs}
 use lib.ListN.{length}
-use Rattle.dynamics.specs.Calculation.{workOf, inputsBy}
+use Rattle.forward_dynamics.specs.Inputs.{inputsBy}
+use Rattle.dynamics.specs.Calculation.{workBy}
 use Rattle.calculations.specs.Make.{againOf, timesOf, madeBy}
 use Rattle.calls.specs.Position.{iterate}
 use Rattle.calculations.proofs.make.Laws.{again-on, again-end}
@@ -14,11 +15,11 @@ use Rattle.calculations.proofs.make.times.Lts as lts
 use Rattle.calculations.proofs.make.once.Reads as once-reads
 
 abbrev Inv-loop : tie.InvT-loop
-Inv-loop count c m q qd forces loaded loads budgets counts₀ ws₀ out₀ last₀ left₀ counts ws out last left =
-    (last .counts ≤ length counts) × (length counts ≡ length counts₀) × (length ws ≡ length ws₀) × (length out ≡ length out₀) × (iterate (againOf (workOf c m (inputsBy q qd forces loaded loads)) budgets) (left - 1) (madeBy last counts ws out) ≡ iterate (againOf (workOf c m (inputsBy q qd forces loaded loads)) budgets) (left₀ - 1) (madeBy last₀ counts₀ ws₀ out₀))
+Inv-loop count c n parents kinds origins axes links q qd forces loaded loads budgets counts₀ ws₀ out₀ last₀ left₀ counts ws out last left =
+    (last .counts ≤ length counts) × (length counts ≡ length counts₀) × (length ws ≡ length ws₀) × (length out ≡ length out₀) × (iterate (againOf (workBy c n parents kinds origins axes links (inputsBy q qd forces loaded loads)) budgets) (left - 1) (madeBy last counts ws out) ≡ iterate (againOf (workBy c n parents kinds origins axes links (inputsBy q qd forces loaded loads)) budgets) (left₀ - 1) (madeBy last₀ counts₀ ws₀ out₀))
 
 abbrev μ-loop : tie.MeasureT-loop
-μ-loop count c m q qd forces loaded loads budgets counts₀ ws₀ out₀ last₀ left₀ counts ws out last left =
+μ-loop count c n parents kinds origins axes links q qd forces loaded loads budgets counts₀ ws₀ out₀ last₀ left₀ counts ws out last left =
     left
 
 once-requires : tie.Need-once-requires Inv-loop μ-loop

@@ -6,7 +6,7 @@ use Rattle.requests.proofs.answer.name_of.Statement.{statement}
 use Rattle.requests.proofs.answer.name_of.Tie as tie
 use Rattle.requests.proofs.answer.name_of.Reads as reads
 use Rattle.requests.proofs.answer.name_of.Lts as lts
-use Rattle.calculations.proofs.read.kind_of.Reads as kind-of-reads
+use Rattle.readings.proofs.read.kind_of.Reads as kind-of-reads
 use Rattle.words.proofs.read.same.Reads as same-reads
 
 slice-aggregate-same : tie.Need-slice-aggregate-same

@@ -3,18 +3,18 @@ use mathlib.Core.Path.{sym, _∙_}
 use mathlib.Core.Option.{none}
 use lib.ListN.{take}
 use borrow.Author.Needs.{needs}
-use Rattle.calculations.specs.Column.{columnRequest}
-use Rattle.calculations.specs.Request.{calculateRequest, repeatRequest, resumeRequest}
+use Rattle.writings.specs.Column.{columnRequest}
+use Rattle.calculation_requests.specs.Request.{calculateRequest, repeatRequest, resumeRequest}
 use Rattle.requests.specs.Routines.{rootRequest, halfTurnRequest}
 use Rattle.requests.proofs.answer.Laws.{request-is, kept}
 use Rattle.requests.proofs.answer.request.Statement.{statement}
 use Rattle.requests.proofs.answer.request.Tie as tie
 use Rattle.requests.proofs.answer.request.Reads as reads
 use Rattle.requests.proofs.answer.request.Lts as lts
-use Rattle.calculations.proofs.column.column.Reads as column-reads
-use Rattle.calculations.proofs.request.calculate.Reads as calculate-reads
-use Rattle.calculations.proofs.request.repeat.Reads as repeat-reads
-use Rattle.calculations.proofs.request.resume.Reads as resume-reads
+use Rattle.writings.proofs.column.column.Reads as column-reads
+use Rattle.calculation_requests.proofs.request.calculate.Reads as calculate-reads
+use Rattle.calculation_requests.proofs.request.repeat.Reads as repeat-reads
+use Rattle.calculation_requests.proofs.request.resume.Reads as resume-reads
 use Rattle.replies.proofs.error.Reads as error-reads
 use Rattle.requests.proofs.answer.name_of.Reads as name-of-reads
 use Rattle.requests.proofs.models.lend.Reads as lend-reads

@@ -38,13 +38,13 @@ returns-2 c =
     let b2 = c .before .before in
     let b5 = b2 .before .before .before in
     let b7 = b5 .before .before in
-    (rw (← (rw (b5 .n .given .1) at (b7 .next-number .ensures .0)), ← (rw (c .enum-told2 .given .1) at (b2 .numbers .ensures .0))), tt)
+    (rw (← (rw (b5 .n .given .1) at (b7 .next-number .ensures .0)), ← (rw (c .enum-told2 .given .1) at (b2 .numbers .ensures .0 .0))), tt)
 
 numbers-requires-2 : tie.Need-numbers-requires-2
 numbers-requires-2 c κs =
     let b2 = c .before .before in
     let b4 = b2 .before .before in
-    (rw (b2 .p .given .1) at (b4 .numbers .ensures .1)) .2
+    (rw (b2 .p .given .1) at (b4 .numbers .ensures .0 .1))
 
 enum-known-k : tie.Need-enum-known-k
 enum-known-k c = search needs
@@ -60,7 +60,7 @@ returns-3 c =
     let b7 = b5 .before .before in
     let b10 = b7 .before .before .before in
     let b12 = b10 .before .before in (
-      rw (← (rw (b10 .n .given .1) at (b12 .next-number .ensures .0)), ← (rw (b5 .p .given .1) at (b7 .numbers .ensures .0)), ← (rw (c .enum-told3 .given .1) at (b2 .numbers2 .ensures .0))),
+      rw (← (rw (b10 .n .given .1) at (b12 .next-number .ensures .0)), ← (rw (b5 .p .given .1) at (b7 .numbers .ensures .0 .0)), ← (rw (c .enum-told3 .given .1) at (b2 .numbers2 .ensures .0 .0))),
       tt,
     )
 
@@ -68,7 +68,7 @@ doubles-requires : tie.Need-doubles-requires
 doubles-requires c κs =
     let b2 = c .before .before in
     let b4 = b2 .before .before in
-    (rw (b2 .k .given .1) at (b4 .numbers2 .ensures .1)) .2
+    (rw (b2 .k .given .1) at (b4 .numbers2 .ensures .0 .1))
 
 enum-known-o : tie.Need-enum-known-o
 enum-known-o c = search needs
@@ -86,7 +86,7 @@ returns-4 c =
     let b12 = b10 .before .before in
     let b15 = b12 .before .before .before in
     let b17 = b15 .before .before in (
-      rw (← (rw (b15 .n .given .1) at (b17 .next-number .ensures .0)), ← (rw (b10 .p .given .1) at (b12 .numbers .ensures .0)), ← (rw (b5 .k .given .1) at (b7 .numbers2 .ensures .0)), ← (rw (c .enum-told4 .given .1) at (b2 .doubles .ensures .0))),
+      rw (← (rw (b15 .n .given .1) at (b17 .next-number .ensures .0)), ← (rw (b10 .p .given .1) at (b12 .numbers .ensures .0 .0)), ← (rw (b5 .k .given .1) at (b7 .numbers2 .ensures .0 .0)), ← (rw (c .enum-told4 .given .1) at (b2 .doubles .ensures .0 .0))),
       tt,
     )
 
@@ -94,7 +94,7 @@ doubles-requires-2 : tie.Need-doubles-requires-2
 doubles-requires-2 c κs =
     let b2 = c .before .before in
     let b4 = b2 .before .before in
-    (rw (b2 .o .given .1) at (b4 .doubles .ensures .1)) .2
+    (rw (b2 .o .given .1) at (b4 .doubles .ensures .0 .1))
 
 enum-known-a : tie.Need-enum-known-a
 enum-known-a c = search needs
@@ -114,7 +114,7 @@ returns-5 c =
     let b17 = b15 .before .before in
     let b20 = b17 .before .before .before in
     let b22 = b20 .before .before in (
-      rw (← (rw (b20 .n .given .1) at (b22 .next-number .ensures .0)), ← (rw (b15 .p .given .1) at (b17 .numbers .ensures .0)), ← (rw (b10 .k .given .1) at (b12 .numbers2 .ensures .0)), ← (rw (b5 .o .given .1) at (b7 .doubles .ensures .0)), ← (rw (c .enum-told5 .given .1) at (b2 .doubles2 .ensures .0))),
+      rw (← (rw (b20 .n .given .1) at (b22 .next-number .ensures .0)), ← (rw (b15 .p .given .1) at (b17 .numbers .ensures .0 .0)), ← (rw (b10 .k .given .1) at (b12 .numbers2 .ensures .0 .0)), ← (rw (b5 .o .given .1) at (b7 .doubles .ensures .0 .0)), ← (rw (c .enum-told5 .given .1) at (b2 .doubles2 .ensures .0 .0))),
       tt,
     )
 
@@ -122,7 +122,7 @@ doubles-requires-3 : tie.Need-doubles-requires-3
 doubles-requires-3 c κs =
     let b2 = c .before .before in
     let b4 = b2 .before .before in
-    (rw (b2 .a .given .1) at (b4 .doubles2 .ensures .1)) .2
+    (rw (b2 .a .given .1) at (b4 .doubles2 .ensures .0 .1))
 
 enum-known-l : tie.Need-enum-known-l
 enum-known-l c = search needs
@@ -144,7 +144,7 @@ returns-6 c =
     let b22 = b20 .before .before in
     let b25 = b22 .before .before .before in
     let b27 = b25 .before .before in (
-      rw (← (rw (b25 .n .given .1) at (b27 .next-number .ensures .0)), ← (rw (b20 .p .given .1) at (b22 .numbers .ensures .0)), ← (rw (b15 .k .given .1) at (b17 .numbers2 .ensures .0)), ← (rw (b10 .o .given .1) at (b12 .doubles .ensures .0)), ← (rw (b5 .a .given .1) at (b7 .doubles2 .ensures .0)), ← (rw (c .enum-told6 .given .1) at (b2 .doubles3 .ensures .0))),
+      rw (← (rw (b25 .n .given .1) at (b27 .next-number .ensures .0)), ← (rw (b20 .p .given .1) at (b22 .numbers .ensures .0 .0)), ← (rw (b15 .k .given .1) at (b17 .numbers2 .ensures .0 .0)), ← (rw (b10 .o .given .1) at (b12 .doubles .ensures .0 .0)), ← (rw (b5 .a .given .1) at (b7 .doubles2 .ensures .0 .0)), ← (rw (c .enum-told6 .given .1) at (b2 .doubles3 .ensures .0 .0))),
       tt,
     )
 
@@ -152,7 +152,7 @@ at-end-requires : tie.Need-at-end-requires
 at-end-requires c κs =
     let b1 = c .before in
     let b3 = b1 .before .before in
-    (rw (b1 .l .given .1) at (b3 .doubles3 .ensures .1)) .2
+    (rw (b1 .l .given .1) at (b3 .doubles3 .ensures .0 .1))
 
 returns-7 : tie.Need-returns-7
 unfolding handed end
@@ -170,7 +170,7 @@ returns-7 c =
     let b25 = b23 .before .before in
     let b28 = b25 .before .before .before in
     let b30 = b28 .before .before in (
-      rw (← (rw (b28 .n .given .1) at (b30 .next-number .ensures .0)), ← (rw (b23 .p .given .1) at (b25 .numbers .ensures .0)), ← (rw (b18 .k .given .1) at (b20 .numbers2 .ensures .0)), ← (rw (b13 .o .given .1) at (b15 .doubles .ensures .0)), ← (rw (b8 .a .given .1) at (b10 .doubles2 .ensures .0)), ← (rw (b3 .l .given .1) at (b5 .doubles3 .ensures .0)), sym (b1 .at-end .ensures) ∙ not-true (b1 .at-end .result) (c .if1 .taken)),
+      rw (← (rw (b28 .n .given .1) at (b30 .next-number .ensures .0)), ← (rw (b23 .p .given .1) at (b25 .numbers .ensures .0 .0)), ← (rw (b18 .k .given .1) at (b20 .numbers2 .ensures .0 .0)), ← (rw (b13 .o .given .1) at (b15 .doubles .ensures .0 .0)), ← (rw (b8 .a .given .1) at (b10 .doubles2 .ensures .0 .0)), ← (rw (b3 .l .given .1) at (b5 .doubles3 .ensures .0 .0)), sym (b1 .at-end .ensures) ∙ not-true (b1 .at-end .result) (c .if1 .taken)),
       tt,
     )
 
@@ -190,7 +190,7 @@ returns-8 c =
     let b25 = b23 .before .before in
     let b28 = b25 .before .before .before in
     let b30 = b28 .before .before in (
-      rw (← (rw (b28 .n .given .1) at (b30 .next-number .ensures .0)), ← (rw (b23 .p .given .1) at (b25 .numbers .ensures .0)), ← (rw (b18 .k .given .1) at (b20 .numbers2 .ensures .0)), ← (rw (b13 .o .given .1) at (b15 .doubles .ensures .0)), ← (rw (b8 .a .given .1) at (b10 .doubles2 .ensures .0)), ← (rw (b3 .l .given .1) at (b5 .doubles3 .ensures .0)), sym (b1 .at-end .ensures) ∙ not-false (b1 .at-end .result) (c .if1 .left)),
+      rw (← (rw (b28 .n .given .1) at (b30 .next-number .ensures .0)), ← (rw (b23 .p .given .1) at (b25 .numbers .ensures .0 .0)), ← (rw (b18 .k .given .1) at (b20 .numbers2 .ensures .0 .0)), ← (rw (b13 .o .given .1) at (b15 .doubles .ensures .0 .0)), ← (rw (b8 .a .given .1) at (b10 .doubles2 .ensures .0 .0)), ← (rw (b3 .l .given .1) at (b5 .doubles3 .ensures .0 .0)), sym (b1 .at-end .ensures) ∙ not-false (b1 .at-end .result) (c .if1 .left)),
       record { parents = (rw (b23 .p .given .1) at (b25 .numbers .ensures .1)) .1; kinds = (rw (b18 .k .given .1) at (b20 .numbers2 .ensures .1)) .1; origins = (rw (b13 .o .given .1) at (b15 .doubles .ensures .1)) .1; axes = (rw (b8 .a .given .1) at (b10 .doubles2 .ensures .1)) .1; links = (rw (b3 .l .given .1) at (b5 .doubles3 .ensures .1)) .1 },
     )
 

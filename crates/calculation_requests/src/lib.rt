@@ -1,0 +1,2 @@
+// The requests of `desk` that make a calculation.
+pub mod request;

@@ -1,0 +1,2 @@
+// What the requests that make a calculation hand in.
+pub mod read;
