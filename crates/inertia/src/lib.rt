@@ -1,6 +1,7 @@
 // Inertias of bodies as 6×6 matrices, angular first (`forward_dynamics.rs`).
 ghost use mathlib.Core.Path.{_≡_};
-ghost use Prim.Native.Nat.{_≤_, _<_};
+ghost use Prim.Native.Nat.{_+_, _*_, _≤_, _<_};
+ghost use lib.ListN.{length, take};
 ghost use Rattle.spatial.specs.Wrench.{vectorOf};
 ghost use Rattle.inertia.specs.Inertia.{blockOf, fromBlocks, rigidOf, inertiaApply, rowPart, columnsOf, signedColumn, unit, alongOf, inertiaApplyJoint, subspaceOf, movedOf, inertiaToParent, reduceOf, averageOf};
 use arm::joint::Motion;
@@ -225,9 +226,10 @@ pub fn transform_inertia_to_parent(frame: Frame, m: &[f64; 36]) -> [f64; 36]
     ensures { λ r. ⌜ r ≡ inertiaToParent frame (now (m .entry)) ⌝ }
 {
     let rotation = frame.rotation.matrix();
-    let angular = rotation.turned(block(m, 0, 0));
-    let coupling = rotation.turned(block(m, 0, 3));
-    let linear = rotation.turned(block(m, 3, 3));
+    let back = rotation.transpose();
+    let angular = rotation.times(block(m, 0, 0)).times(back);
+    let coupling = rotation.times(block(m, 0, 3)).times(back);
+    let linear = rotation.times(block(m, 3, 3)).times(back);
     moved(
         mat3::cross_matrix(frame.translation),
         angular,
@@ -236,14 +238,27 @@ pub fn transform_inertia_to_parent(frame: Frame, m: &[f64; 36]) -> [f64; 36]
     )
 }
 
+// Row i, where those before it stand.
+fn reduced_row(n: &mut [f64; 36], m: &[f64; 36], u: &[f64; 6], d: f64, i: usize)
+    requires { ⌜ (i < 6) × (length (now n) ≡ 36) × (take (i * 6) (now n) ≡ take (i * 6) (reduceOf (now m) (now u) d)) ⌝ }
+    ensures { λ _. ⌜ (length (now (n .exit)) ≡ 36) × (take ((i + 1) * 6) (now (n .exit)) ≡ take ((i + 1) * 6) (reduceOf (now (m .entry)) (now (u .entry)) d)) ⌝ }
+{
+    let mut j: usize = 0;
+    while j < 6 {
+        let t = i * 6 + j;
+        n[t] = m[t] - (u[i] * u[j]) / d;
+        j += 1;
+    }
+}
+
 fn reduced(m: &[f64; 36], u: &[f64; 6], d: f64) -> [f64; 36]
     ensures { λ r. ⌜ r ≡ reduceOf (now (m .entry)) (now (u .entry)) d ⌝ }
 {
     let mut n = [0.0; 36];
-    let mut t: usize = 0;
-    while t < 36 {
-        n[t] = m[t] - (u[t / 6] * u[t % 6]) / d;
-        t += 1;
+    let mut i: usize = 0;
+    while i < 6 {
+        reduced_row(&mut n, m, u, d, i);
+        i += 1;
     }
     n
 }
@@ -256,17 +271,28 @@ pub fn reduce(m: &[f64; 36], u: Wrench, d: f64) -> [f64; 36]
     reduced(m, &v, d)
 }
 
+// Row i, where those before it stand.
+fn average_row(n: &mut [f64; 36], m: &[f64; 36], i: usize)
+    requires { ⌜ (i < 6) × (length (now n) ≡ 36) × (take (i * 6) (now n) ≡ take (i * 6) (averageOf (now m))) ⌝ }
+    ensures { λ _. ⌜ (length (now (n .exit)) ≡ 36) × (take ((i + 1) * 6) (now (n .exit)) ≡ take ((i + 1) * 6) (averageOf (now (m .entry)))) ⌝ }
+{
+    let mut j: usize = 0;
+    while j < 6 {
+        let t = i * 6 + j;
+        n[t] = m[t] * 0.5 + m[j * 6 + i] * 0.5;
+        j += 1;
+    }
+}
+
 // m * 0.5 + mᵀ * 0.5.
 pub fn average(m: &[f64; 36]) -> [f64; 36]
     ensures { λ r. ⌜ r ≡ averageOf (now (m .entry)) ⌝ }
 {
     let mut n = [0.0; 36];
-    let mut t: usize = 0;
-    while t < 36 {
-        let i = t / 6;
-        let j = t % 6;
-        n[t] = m[i * 6 + j] * 0.5 + m[j * 6 + i] * 0.5;
-        t += 1;
+    let mut i: usize = 0;
+    while i < 6 {
+        average_row(&mut n, m, i);
+        i += 1;
     }
     n
 }
