@@ -251,24 +251,18 @@ fn reduced_row(n: &mut [f64; 36], m: &[f64; 36], u: &[f64; 6], d: f64, i: usize)
     }
 }
 
-fn reduced(m: &[f64; 36], u: &[f64; 6], d: f64) -> [f64; 36]
-    ensures { λ r. ⌜ r ≡ reduceOf (now (m .entry)) (now (u .entry)) d ⌝ }
-{
-    let mut n = [0.0; 36];
-    let mut i: usize = 0;
-    while i < 6 {
-        reduced_row(&mut n, m, u, d, i);
-        i += 1;
-    }
-    n
-}
-
 // m - (u uᵀ) / d.
 pub fn reduce(m: &[f64; 36], u: Wrench, d: f64) -> [f64; 36]
     ensures { λ r. ⌜ r ≡ reduceOf (now (m .entry)) (vectorOf u) d ⌝ }
 {
     let v = u.to_vector();
-    reduced(m, &v, d)
+    let mut n = [0.0; 36];
+    let mut i: usize = 0;
+    while i < 6 {
+        reduced_row(&mut n, m, &v, d, i);
+        i += 1;
+    }
+    n
 }
 
 // Row i, where those before it stand.
