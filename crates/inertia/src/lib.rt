@@ -25,18 +25,18 @@ fn block(m: &[f64; 36], i: usize, j: usize) -> Mat3
     Mat3 {
         r0: Vec3 {
             x: m[a],
-            y: m[i * 6 + (j + 1)],
-            z: m[i * 6 + (j + 2)],
+            y: m[a + 1],
+            z: m[a + 2],
         },
         r1: Vec3 {
             x: m[b],
-            y: m[(i + 1) * 6 + (j + 1)],
-            z: m[(i + 1) * 6 + (j + 2)],
+            y: m[b + 1],
+            z: m[b + 2],
         },
         r2: Vec3 {
             x: m[c],
-            y: m[(i + 2) * 6 + (j + 1)],
-            z: m[(i + 2) * 6 + (j + 2)],
+            y: m[c + 1],
+            z: m[c + 2],
         },
     }
 }
