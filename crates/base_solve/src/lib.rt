@@ -1,6 +1,7 @@
 // The solve of a floating base: B = D⁻¹ A D⁻¹, B y = D⁻¹ b, x = D⁻¹ y, with document 01's tests in their order.
 ghost use mathlib.Core.Path.{_≡_};
-ghost use Prim.Native.Nat.{_<_};
+ghost use Prim.Native.Nat.{_+_, _*_, _<_};
+ghost use lib.ListN.{length, take};
 ghost use Rattle.square_root.specs.SquareRoot.{rootOf};
 ghost use Rattle.spatial.specs.Wrench.{vectorOf};
 ghost use Rattle.base_solve.specs.BaseSolve.{told, rootOr, aboveTo, scaleOf, scaledOf, dividedOf, overOf, differenceOf, columnSum, normTo, sizeOf, basis, nextNorm, inverseTo, residualOf, nearOf, checkedOf, solutionOf, conditionedOf, factoredOf, baseSolve};
@@ -60,14 +61,27 @@ fn scale(a: &[f64; 36]) -> [f64; 6]
     m
 }
 
+// Row i, where those before it stand.
+fn scaled_row(m: &mut [f64; 36], a: &[f64; 36], s: &[f64; 6], i: usize)
+    requires { ⌜ (i < 6) × (length (now m) ≡ 36) × (take (i * 6) (now m) ≡ take (i * 6) (scaledOf (now a) (now s))) ⌝ }
+    ensures { λ _. ⌜ (length (now (m .exit)) ≡ 36) × (take ((i + 1) * 6) (now (m .exit)) ≡ take ((i + 1) * 6) (scaledOf (now (a .entry)) (now (s .entry)))) ⌝ }
+{
+    let mut j: usize = 0;
+    while j < 6 {
+        let t = i * 6 + j;
+        m[t] = a[t] / s[i] / s[j];
+        j += 1;
+    }
+}
+
 fn scaled(a: &[f64; 36], s: &[f64; 6]) -> [f64; 36]
     ensures { λ r. ⌜ r ≡ scaledOf (now (a .entry)) (now (s .entry)) ⌝ }
 {
     let mut m = [0.0; 36];
-    let mut t: usize = 0;
-    while t < 36 {
-        m[t] = a[t] / s[t / 6] / s[t % 6];
-        t += 1;
+    let mut i: usize = 0;
+    while i < 6 {
+        scaled_row(&mut m, a, s, i);
+        i += 1;
     }
     m
 }

@@ -1,6 +1,7 @@
 // Inertias of bodies as 6×6 matrices, angular first (`forward_dynamics.rs`).
 ghost use mathlib.Core.Path.{_≡_};
-ghost use Prim.Native.Nat.{_≤_, _<_};
+ghost use Prim.Native.Nat.{_+_, _*_, _≤_, _<_};
+ghost use lib.ListN.{length, take};
 ghost use Rattle.spatial.specs.Wrench.{vectorOf};
 ghost use Rattle.inertia.specs.Inertia.{blockOf, fromBlocks, rigidOf, inertiaApply, rowPart, columnsOf, signedColumn, unit, alongOf, inertiaApplyJoint, subspaceOf, movedOf, inertiaToParent, reduceOf, averageOf};
 use arm::joint::Motion;
@@ -23,18 +24,18 @@ fn block(m: &[f64; 36], i: usize, j: usize) -> Mat3
     Mat3 {
         r0: Vec3 {
             x: m[a],
-            y: m[i * 6 + (j + 1)],
-            z: m[i * 6 + (j + 2)],
+            y: m[a + 1],
+            z: m[a + 2],
         },
         r1: Vec3 {
             x: m[b],
-            y: m[(i + 1) * 6 + (j + 1)],
-            z: m[(i + 1) * 6 + (j + 2)],
+            y: m[b + 1],
+            z: m[b + 2],
         },
         r2: Vec3 {
             x: m[c],
-            y: m[(i + 2) * 6 + (j + 1)],
-            z: m[(i + 2) * 6 + (j + 2)],
+            y: m[c + 1],
+            z: m[c + 2],
         },
     }
 }
@@ -224,9 +225,10 @@ pub fn transform_inertia_to_parent(frame: Frame, m: &[f64; 36]) -> [f64; 36]
     ensures { λ r. ⌜ r ≡ inertiaToParent frame (now (m .entry)) ⌝ }
 {
     let rotation = frame.rotation.matrix();
-    let angular = rotation.turned(block(m, 0, 0));
-    let coupling = rotation.turned(block(m, 0, 3));
-    let linear = rotation.turned(block(m, 3, 3));
+    let back = rotation.transpose();
+    let angular = rotation.times(block(m, 0, 0)).times(back);
+    let coupling = rotation.times(block(m, 0, 3)).times(back);
+    let linear = rotation.times(block(m, 3, 3)).times(back);
     moved(
         mat3::cross_matrix(frame.translation),
         angular,
@@ -235,16 +237,17 @@ pub fn transform_inertia_to_parent(frame: Frame, m: &[f64; 36]) -> [f64; 36]
     )
 }
 
-fn reduced(m: &[f64; 36], u: &[f64; 6], d: f64) -> [f64; 36]
-    ensures { λ r. ⌜ r ≡ reduceOf (now (m .entry)) (now (u .entry)) d ⌝ }
+// Row i, where those before it stand.
+fn reduced_row(n: &mut [f64; 36], m: &[f64; 36], u: &[f64; 6], d: f64, i: usize)
+    requires { ⌜ (i < 6) × (length (now n) ≡ 36) × (take (i * 6) (now n) ≡ take (i * 6) (reduceOf (now m) (now u) d)) ⌝ }
+    ensures { λ _. ⌜ (length (now (n .exit)) ≡ 36) × (take ((i + 1) * 6) (now (n .exit)) ≡ take ((i + 1) * 6) (reduceOf (now (m .entry)) (now (u .entry)) d)) ⌝ }
 {
-    let mut n = [0.0; 36];
-    let mut t: usize = 0;
-    while t < 36 {
-        n[t] = m[t] - (u[t / 6] * u[t % 6]) / d;
-        t += 1;
+    let mut j: usize = 0;
+    while j < 6 {
+        let t = i * 6 + j;
+        n[t] = m[t] - (u[i] * u[j]) / d;
+        j += 1;
     }
-    n
 }
 
 // m - (u uᵀ) / d.
@@ -252,7 +255,26 @@ pub fn reduce(m: &[f64; 36], u: Wrench, d: f64) -> [f64; 36]
     ensures { λ r. ⌜ r ≡ reduceOf (now (m .entry)) (vectorOf u) d ⌝ }
 {
     let v = u.to_vector();
-    reduced(m, &v, d)
+    let mut n = [0.0; 36];
+    let mut i: usize = 0;
+    while i < 6 {
+        reduced_row(&mut n, m, &v, d, i);
+        i += 1;
+    }
+    n
+}
+
+// Row i, where those before it stand.
+fn average_row(n: &mut [f64; 36], m: &[f64; 36], i: usize)
+    requires { ⌜ (i < 6) × (length (now n) ≡ 36) × (take (i * 6) (now n) ≡ take (i * 6) (averageOf (now m))) ⌝ }
+    ensures { λ _. ⌜ (length (now (n .exit)) ≡ 36) × (take ((i + 1) * 6) (now (n .exit)) ≡ take ((i + 1) * 6) (averageOf (now (m .entry)))) ⌝ }
+{
+    let mut j: usize = 0;
+    while j < 6 {
+        let t = i * 6 + j;
+        n[t] = m[t] * 0.5 + m[j * 6 + i] * 0.5;
+        j += 1;
+    }
 }
 
 // m * 0.5 + mᵀ * 0.5.
@@ -260,12 +282,10 @@ pub fn average(m: &[f64; 36]) -> [f64; 36]
     ensures { λ r. ⌜ r ≡ averageOf (now (m .entry)) ⌝ }
 {
     let mut n = [0.0; 36];
-    let mut t: usize = 0;
-    while t < 36 {
-        let i = t / 6;
-        let j = t % 6;
-        n[t] = m[i * 6 + j] * 0.5 + m[j * 6 + i] * 0.5;
-        t += 1;
+    let mut i: usize = 0;
+    while i < 6 {
+        average_row(&mut n, m, i);
+        i += 1;
     }
     n
 }

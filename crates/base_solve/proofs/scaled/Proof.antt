@@ -1,80 +1,44 @@
-use mathlib.Core.Path.{refl}
-use mathlib.Core.List.{List}
-use Prim.Native.Nat.{ℕ, _-_, _/_, _%_, zero-le}
-use lib.ListN.{getD}
-use lib.Ieee.{Float, nan}
+use mathlib.Core.Path.{_≡_, refl}
+use Prim.Native.Nat.{_*_, _-_}
+use native.Mathlib.Omega.{arith}
+use lib.ListN.{length, getD, take}
+use lib.Ieee.{nan}
 use Rattle.numbers.specs.Double.{_⊘_}
-use Rattle.numbers.proofs.Filled.{Filled, none, more, full}
+use Rattle.numbers.proofs.Rows.{full}
 use Rattle.base_solve.specs.BaseSolve.{scaledOf}
 use borrow.Author.Needs.{needs}
 use Rattle.base_solve.proofs.scaled.Statement.{statement}
 use Rattle.base_solve.proofs.scaled.Tie as tie
 
-abbrev scaledAt : List Float → List Float → ℕ → Float
-scaledAt a s t = getD a t nan ⊘ getD s (t / 6) nan ⊘ getD s (t % 6) nan
-
 abbrev Inv-loop : tie.InvT-loop
-Inv-loop a s m₀ t₀ m t = Filled (scaledAt a s) 36 m t
+Inv-loop a s m₀ i₀ m i = (length m ≡ 36) × (take (i * 6) m ≡ take (i * 6) (scaledOf a s))
 
 abbrev μ-loop : tie.MeasureT-loop
-μ-loop a s m₀ t₀ m t = 36 - t
+μ-loop a s m₀ i₀ m i = 6 - i
 
 loop-holds : tie.Need-loop-holds Inv-loop μ-loop
-loop-holds c = none (scaledAt (c .args .a .now) (c .args .s .now)) 36 _ refl zero-le
+loop-holds c = (refl, refl)
 
-mul-m : tie.Need-mul-m Inv-loop μ-loop
-mul-m c = search needs
+scaled-row-requires : tie.Need-scaled-row-requires Inv-loop μ-loop
+scaled-row-requires c κs = search needs
 
-element-copy-out-m : tie.Need-element-copy-out-m Inv-loop μ-loop
-element-copy-out-m c = search needs
-
-mul-m-2 : tie.Need-mul-m-2 Inv-loop μ-loop
-mul-m-2 c = search needs
-
-element-copy-out-m-2 : tie.Need-element-copy-out-m-2 Inv-loop μ-loop
-element-copy-out-m-2 c = search needs
-
-mul-m-3 : tie.Need-mul-m-3 Inv-loop μ-loop
-mul-m-3 c = search needs
-
-element-copy-out-m-3 : tie.Need-element-copy-out-m-3 Inv-loop μ-loop
-element-copy-out-m-3 c = search needs
-
-mul-m-4 : tie.Need-mul-m-4 Inv-loop μ-loop
-mul-m-4 c = search needs
-
-array-write-m : tie.Need-array-write-m Inv-loop μ-loop
-array-write-m c = search needs
-
-add-t : tie.Need-add-t Inv-loop μ-loop
-add-t c = search needs
+add-i : tie.Need-add-i Inv-loop μ-loop
+add-i c = search needs
 
 loop-less : tie.Need-loop-less Inv-loop μ-loop
 loop-less c = search needs
 
 loop-again : tie.Need-loop-again Inv-loop μ-loop
-loop-again c = let o = c .before .before .before .before in more (scaledAt (o .before .args .a .now) (o .before .args .s .now)) 36 (o .loop .m) (o .loop .t) _ (o .loop .inv) (c .before .before .before .loop-test .taken) refl
+loop-again c = c .scaled-row .ensures
 
 returns : tie.Need-returns Inv-loop μ-loop
 unfolding scaledOf
-returns c = let o = c .before in full (scaledAt (o .before .args .a .now) (o .before .args .s .now)) 36 (o .loop .m) (o .loop .t) (o .loop .inv) (c .loop-test .left)
+returns c =
+    let o = c .before in
+    let b = o .before .args in
+    full (λ t r k. getD (b .a .now) t nan ⊘ getD (b .s .now) r nan ⊘ getD (b .s .now) k nan) (o .loop .m) (o .loop .i * 6) (o .loop .inv .0) (omega arith) (o .loop .inv .1)
 
 pub scaled-spec : {M : Type 1} → statement M
 scaled-spec =
     tie.close
-    (tie.spec
-    Inv-loop
-    μ-loop
-    loop-holds
-    mul-m
-    element-copy-out-m
-    mul-m-2
-    element-copy-out-m-2
-    mul-m-3
-    element-copy-out-m-3
-    mul-m-4
-    array-write-m
-    add-t
-    loop-less
-    loop-again
-    returns)
+    (tie.spec Inv-loop μ-loop loop-holds scaled-row-requires add-i loop-less loop-again returns)
