@@ -7,7 +7,7 @@ use Rattle.calls.specs.Position.{Result}
 use Rattle.calls.specs.declared.position.Answer.{Answer}
 use Rattle.numbers.proofs.root.sqrt.Reads as sqrt
 use Rattle.numbers.proofs.half_turn.half_turn.Reads as half-turn
-use Rattle.arm.proofs.build.build.Reads as build
+use Rattle.builder.proofs.build.build.Reads as build
 use Rattle.mass_matrix.proofs.mass_matrix.start.Reads as matrix-start
 use Rattle.mass_matrix.proofs.mass_matrix.portion.Reads as matrix-portion
 use Rattle.mass_matrix.proofs.mass_matrix.mass_matrix.Reads as matrix-whole

@@ -12,8 +12,8 @@ use Rattle.words.specs.List.{numbers, doubles}
 use Rattle.words.specs.Write.{bytes}
 use Rattle.refusals.specs.declared.Verdict.{Verdict}
 use Rattle.refusals.specs.declared.Verdict.the-variants.{Fine, Refused}
-use Rattle.arm.specs.Build.{builtOf}
-use Rattle.arm.specs.declared.build.Built.{Built}
+use Rattle.builder.specs.Build.{builtOf}
+use Rattle.builder.specs.declared.build.Built.{Built}
 use Rattle.arm.specs.declared.model.Model.{Model}
 use Rattle.replies.specs.Replies.{refusedText}
 use Rattle.requests.specs.declared.models.Sizes.{Sizes}

@@ -7,7 +7,7 @@ ghost use lib.ListN.{length, take};
 ghost use Rattle.words.specs.Read.{wordsAt};
 ghost use Rattle.replies.specs.Replies.{room, replyOf, behind};
 ghost use Rattle.requests.specs.Models.{handed, numbersBy, handedRead, SizesIn, HandedIn, builtLine, modelRequest, allBytes, fullBy, LentBy, lendRequest};
-use arm::build::build;
+use builder::build::build;
 use arm::model::Model;
 use numbers::double::both;
 use refusals::Verdict;
