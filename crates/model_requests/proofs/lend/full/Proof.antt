@@ -1,0 +1,25 @@
+-- `lend::full` meets its contract. It is the definition.
+use borrow.Author.Needs.{needs}
+use Rattle.model_requests.specs.Lend.{fullBy}
+use Rattle.model_requests.proofs.lend.full.Statement.{statement}
+use Rattle.model_requests.proofs.lend.full.Tie as tie
+
+both-requires : tie.Need-both-requires
+both-requires c κs = search needs
+
+both-requires-2 : tie.Need-both-requires-2
+both-requires-2 c κs = search needs
+
+both-requires-3 : tie.Need-both-requires-3
+both-requires-3 c κs = search needs
+
+both-requires-4 : tie.Need-both-requires-4
+both-requires-4 c κs = search needs
+
+returns : tie.Need-returns
+unfolding fullBy
+returns c = cc
+
+pub full-spec : {M : Type 1} → statement M
+full-spec =
+    tie.close (tie.spec both-requires both-requires-2 both-requires-3 both-requires-4 returns)
