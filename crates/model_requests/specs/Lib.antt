@@ -1,3 +1,2 @@
-pub mod Read
 pub mod Model
 pub mod Lend

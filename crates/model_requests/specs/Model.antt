@@ -9,7 +9,7 @@ use Rattle.arm.specs.declared.model.Model.{Model}
 use Rattle.builder.specs.Build.{builtOf}
 use Rattle.builder.specs.declared.build.Built.{Built}
 use Rattle.replies.specs.Replies.{refusedText}
-use Rattle.model_requests.specs.Read.{handed}
+use Rattle.model_lists.specs.Read.{handed}
 
 abbrev pub builtLine : Verdict → List ℕ
 builtLine Fine = bytes "model\n"

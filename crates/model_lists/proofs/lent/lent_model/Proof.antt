@@ -1,8 +1,8 @@
--- `lend::lent_model` meets its contract. What the steps give makes a lent model.
+-- `lent::lent_model` meets its contract. What the steps give makes a lent model.
 use borrow.Author.Needs.{needs}
-use Rattle.model_requests.proofs.lend.Lists.{lent-by}
-use Rattle.model_requests.proofs.lend.lent_model.Statement.{statement}
-use Rattle.model_requests.proofs.lend.lent_model.Tie as tie
+use Rattle.model_lists.proofs.lent.Lists.{lent-by}
+use Rattle.model_lists.proofs.lent.lent_model.Statement.{statement}
+use Rattle.model_lists.proofs.lent.lent_model.Tie as tie
 
 narrow-requires : tie.Need-narrow-requires
 narrow-requires c κs = search needs

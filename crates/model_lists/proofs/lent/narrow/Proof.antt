@@ -1,4 +1,4 @@
--- `lend::narrow` meets its contract. The first k numbers are copied, and the bytes left decide.
+-- `lent::narrow` meets its contract. The first k numbers are copied, and the bytes left decide.
 use mathlib.Core.Path.{_≡_, refl, sym, _∙_}
 use mathlib.Core.Bool.{false≢true}
 use Prim.Native.Nat.{_-_, _≤_}
@@ -6,11 +6,11 @@ use native.Mathlib.Omega.{arith}
 use lib.ListN.{length, take, drop}
 use borrow.Author.Needs.{needs}
 use Rattle.words.specs.Write.{bytes}
-use Rattle.model_requests.specs.Lend.{allBytes}
+use Rattle.model_lists.specs.Lent.{allBytes}
 use lib.Seq.{take-all}
-use Rattle.model_requests.proofs.lend.Lists.{bytes-on, bytes-off, bytes-end, copied}
-use Rattle.model_requests.proofs.lend.narrow.Statement.{statement}
-use Rattle.model_requests.proofs.lend.narrow.Tie as tie
+use Rattle.model_lists.proofs.lent.Lists.{bytes-on, bytes-off, bytes-end, copied}
+use Rattle.model_lists.proofs.lent.narrow.Statement.{statement}
+use Rattle.model_lists.proofs.lent.narrow.Tie as tie
 
 abbrev Inv-loop : tie.InvT-loop
 Inv-loop s bytes₀ k₀ bytes k = (k ≤ 32) × (length bytes ≡ 32) × (take k bytes ≡ take k s) × (allBytes (drop k (take 32 s)) ≡ allBytes (take 32 s))

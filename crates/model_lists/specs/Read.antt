@@ -6,9 +6,9 @@ use lib.ListN.{length, take}
 use lib.Ieee.{Float}
 use Rattle.words.specs.Read.{Reader, give, _>>=_, _>>_, number, end}
 use Rattle.words.specs.List.{numbers, doubles}
-use Rattle.model_requests.specs.declared.read.Sizes.{Sizes}
-use Rattle.model_requests.specs.declared.read.Handed.{Handed}
-use Rattle.model_requests.specs.declared.read.Handed.the-variants.{Got, Bad}
+use Rattle.model_lists.specs.declared.read.Sizes.{Sizes}
+use Rattle.model_lists.specs.declared.read.Handed.{Handed}
+use Rattle.model_lists.specs.declared.read.Handed.the-variants.{Got, Bad}
 
 pub record Numbers : Type 0 where
   pub n : ℕ

@@ -3,9 +3,9 @@ use mathlib.Core.Path.{sym, _∙_}
 use borrow.Author.Needs.{needs}
 use borrow.Author.Tests.{not-true, not-false}
 use Rattle.words.specs.Read.{end}
-use Rattle.model_requests.specs.Read.{handed}
-use Rattle.model_requests.proofs.read.read_numbers.Statement.{statement}
-use Rattle.model_requests.proofs.read.read_numbers.Tie as tie
+use Rattle.model_lists.specs.Read.{handed}
+use Rattle.model_lists.proofs.read.read_numbers.Statement.{statement}
+use Rattle.model_lists.proofs.read.read_numbers.Tie as tie
 
 next-number-requires : tie.Need-next-number-requires
 next-number-requires c κs = search needs

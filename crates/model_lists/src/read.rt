@@ -3,7 +3,7 @@ ghost use mathlib.Core.Path.{_≡_};
 ghost use Prim.Native.Nat.{_≤_};
 ghost use lib.ListN.{length};
 ghost use Rattle.words.specs.Read.{wordsAt};
-ghost use Rattle.model_requests.specs.Read.{handed, handedRead, HandedIn};
+ghost use Rattle.model_lists.specs.Read.{handed, handedRead, HandedIn};
 use words::list::Listed;
 use words::list::doubles;
 use words::list::numbers;

@@ -14,9 +14,9 @@ use lib.Ieee.Bits.{is-true}
 use lib.Ieee.Fits.{and-l, and-r}
 use Rattle.numbers.specs.Table.{tab}
 use Rattle.slots.specs.Slots.{partOf}
-use Rattle.model_requests.specs.declared.read.Sizes.{Sizes}
-use Rattle.model_requests.specs.Read.{numbersBy, SizesIn}
-use Rattle.model_requests.specs.Lend.{allBytes, fullBy, lendable, lentModel, LentBy}
+use Rattle.model_lists.specs.declared.read.Sizes.{Sizes}
+use Rattle.model_lists.specs.Read.{numbersBy, SizesIn}
+use Rattle.model_lists.specs.Lent.{allBytes, fullBy, lendable, lentModel, LentBy}
 
 -- ---- of the first n numbers, those from k on
 module _ (l : List ℕ) (n k : ℕ) (w : n ≤ length l) where
