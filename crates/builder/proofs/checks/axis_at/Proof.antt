@@ -20,7 +20,7 @@ kept-axis-requires c κs = search needs
 
 returns : tie.Need-returns
 unfolding axisOf
-returns c = cc
+returns c = rw (c .kept-axis .ensures, c .before .vec3-at .ensures)
 
 pub axis-at-spec : {M : Type 1} → statement M
 axis-at-spec =

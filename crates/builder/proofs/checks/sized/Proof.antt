@@ -29,7 +29,7 @@ both-requires-4 c κs = search needs
 
 returns : tie.Need-returns
 unfolding sizedBy
-returns c = cc
+returns c = rw (c .both4 .ensures, c .before .both3 .ensures, c .before .before .both2 .ensures, c .before .before .before .both .ensures)
 
 pub sized-spec : {M : Type 1} → statement M
 sized-spec =
