@@ -1,1 +1,1 @@
-pub mod Routines
+pub mod RoutineRequests

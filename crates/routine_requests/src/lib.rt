@@ -5,7 +5,7 @@ ghost use Prim.Native.Nat.{_+_, _≤_};
 ghost use lib.ListN.{length, take};
 ghost use Rattle.words.specs.Read.{wordsAt};
 ghost use Rattle.replies.specs.Replies.{room, textOf};
-ghost use Rattle.routine_requests.specs.Routines.{onlyDouble, onlyRead, rootLine, rootRequest, halfTurnLine, halfTurnRequest};
+ghost use Rattle.routine_requests.specs.RoutineRequests.{onlyDouble, onlyRead, rootLine, rootRequest, halfTurnLine, halfTurnRequest};
 use numbers::half_turn::HalfTurn;
 use numbers::root::Root;
 use replies::error;

@@ -1,6 +1,6 @@
 -- `half_turn` meets its contract. Each way out is its case of `halfTurnRequest`.
 use borrow.Author.Needs.{needs}
-use Rattle.routine_requests.specs.Routines.{halfTurnRequest}
+use Rattle.routine_requests.specs.RoutineRequests.{halfTurnRequest}
 use Rattle.routine_requests.proofs.half_turn.Statement.{statement}
 use Rattle.routine_requests.proofs.half_turn.Tie as tie
 

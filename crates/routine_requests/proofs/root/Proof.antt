@@ -1,6 +1,6 @@
 -- `root` meets its contract. Each way out is its case of `rootRequest`.
 use borrow.Author.Needs.{needs}
-use Rattle.routine_requests.specs.Routines.{rootRequest}
+use Rattle.routine_requests.specs.RoutineRequests.{rootRequest}
 use Rattle.routine_requests.proofs.root.Statement.{statement}
 use Rattle.routine_requests.proofs.root.Tie as tie
 

@@ -5,7 +5,7 @@ use lib.ListN.{take}
 use borrow.Author.Needs.{needs}
 use Rattle.calculations.specs.Column.{columnRequest}
 use Rattle.calculations.specs.Request.{calculateRequest, repeatRequest, resumeRequest}
-use Rattle.routine_requests.specs.Routines.{rootRequest, halfTurnRequest}
+use Rattle.routine_requests.specs.RoutineRequests.{rootRequest, halfTurnRequest}
 use Rattle.requests.proofs.answer.Laws.{request-is, kept}
 use Rattle.requests.proofs.answer.request.Statement.{statement}
 use Rattle.requests.proofs.answer.request.Tie as tie
