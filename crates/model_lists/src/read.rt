@@ -1,4 +1,4 @@
-// What both requests hand in.
+// What the requests `model` and `lend` hand in.
 ghost use mathlib.Core.Path.{_≡_};
 ghost use Prim.Native.Nat.{_≤_};
 ghost use lib.ListN.{length};
