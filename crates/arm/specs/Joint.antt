@@ -1,24 +1,18 @@
--- A joint's motion, the rules of its axis and of its origin's rotation, and its frame (document 01, "Model" and "Number rules"). Definitions only.
-use mathlib.Core.Bool.{Bool, cond, _&&_}
+-- A joint's motion, the rule of its origin's rotation, and its frame (document 01, "Model" and "Number rules"). Definitions only.
+use mathlib.Core.Bool.{Bool, cond}
 use mathlib.Core.List.{List, [], _∷_}
 use mathlib.Core.Path.{_≡_}
 use Prim.Native.Nat.{ℕ}
 use lib.Dec.{eqb}
-use lib.Ieee.{Float, ne, le, lt}
-use Rattle.numbers.specs.Double.{_⊕_, _⊖_, _⊗_, _⊘_, bits, 0·0, 1·0, absOf, allFinite, amaxOf}
+use lib.Ieee.{Float, lt}
+use Rattle.numbers.specs.Double.{_⊕_, _⊖_, _⊗_, bits, 1·0, absOf}
 use Rattle.half_turn.specs.HalfTurn.{halfTurnOf}
-use Rattle.square_root.specs.SquareRoot.{rootOf}
-use Rattle.numbers.specs.Vec3.{dotOf, overOf}
 use Rattle.half_turn.specs.declared.HalfTurn.{HalfTurn}
-use Rattle.half_turn.specs.declared.HalfTurn.the-variants.{Of as HalfOf, OutOfRange}
+use Rattle.half_turn.specs.declared.HalfTurn.the-variants.{Of, OutOfRange}
 use Rattle.numbers.specs.declared.quaternion.Quaternion.{Quaternion}
-use Rattle.square_root.specs.declared.Root.{Root}
-use Rattle.square_root.specs.declared.Root.the-variants.{Is, No}
 use Rattle.numbers.specs.declared.vec3.Vec3.{Vec3}
 use Rattle.spatial.specs.Frame.{turnOf, slideOf}
 use Rattle.spatial.specs.declared.frame.Frame.{Frame}
-use Rattle.arm.specs.declared.joint.Axis.{Axis}
-use Rattle.arm.specs.declared.joint.Axis.the-variants.{Of, Bad}
 use Rattle.arm.specs.declared.joint.Motion.{Motion}
 use Rattle.arm.specs.declared.joint.Motion.the-variants.{Turn, Slide, Fixed}
 
@@ -50,31 +44,6 @@ pub record MotionIs (kind : ℕ) (axis : Vec3) (motion : Motion) : Type 0 where
   pub number : kindNumber motion ≡ kind
   pub values : motionValues motion ≡ cond (isFixed kind) [] (components axis)
 
--- ---- the axis rule
-
--- 1e-12
-abbrev pub shortest : Float
-shortest = bits 0x3D719799812DEA11
-
--- refuse if s ≤ 1e-12 / norm; else keep v / norm. No root, which cannot be, is refused too
-unfoldable pub normedAxis : Float → Vec3 → Root → Axis
-normedAxis s v (Is norm) = cond (le s (shortest ⊘ norm)) Bad (Of (overOf v norm))
-normedAxis s v No = Bad
-
--- with v the axis divided by s
-unfoldable pub scaledAxis : Float → Vec3 → Axis
-scaledAxis s v = normedAxis s v (rootOf (dotOf v v))
-
--- s is the largest absolute component; refuse if a component isn't finite or s = 0
-unfoldable pub unitAxis : Vec3 → Axis
-unitAxis axis =
-    let s = amaxOf (components axis) in
-    cond (allFinite (components axis) && ne s 0·0) (scaledAxis s (overOf axis s)) Bad
-
--- a fixed joint's axis is never looked at and becomes (1,0,0)
-unfoldable pub keptAxis : ℕ → Vec3 → Axis
-keptAxis kind axis = cond (isFixed kind) (Of (record { x = 1·0; y = 0·0; z = 0·0 })) (unitAxis axis)
-
 -- ---- the rule of a rotation (refusals 7 and 22)
 
 -- 2 ^ -40
@@ -89,7 +58,7 @@ notUnit q = lt slack (absOf (q .w ⊗ q .w ⊕ q .u .x ⊗ q .u .x ⊕ q .u .y �
 
 -- out of range, which a call refuses beforehand, the origin
 unfoldable pub turnedOf : Frame → Vec3 → HalfTurn → Frame
-turnedOf origin axis (HalfOf v) = turnOf origin axis v
+turnedOf origin axis (Of v) = turnOf origin axis v
 turnedOf origin axis OutOfRange = origin
 
 -- the joint's frame in its parent link, at the value q

@@ -18,8 +18,9 @@ use Rattle.spatial.specs.Operators as operators
 use Rattle.spatial.specs.Twist as twist
 use Rattle.spatial.specs.Wrench as wrench
 use Rattle.slots.specs.Slots as slots
-use Rattle.arm.specs.Build as build
-use Rattle.arm.specs.Checks as builder
+use Rattle.builder.specs.Axis as axis
+use Rattle.builder.specs.Build as build
+use Rattle.builder.specs.Checks as builder
 use Rattle.arm.specs.Joint as joint
 use Rattle.arm.specs.Model as model
 use Rattle.arm.specs.Topology as topology
@@ -61,7 +62,7 @@ unfolding frame.productOf frame.turnOf frame.slideOf operators.wrenchToParent op
 open-spatial = Unit {0}
 
 open-arm : Type 0
-unfolding refusals.scan refusals.lowest refusals.found refusals.namedOf refusals.plainOf refusals.orElse build.byteSlots build.doubleSlots build.axisSlot build.axisSlots build.modelOf build.builtOf builder.sizedBy builder.axisOf builder.badAxis builder.badRow builder.badRotation builder.listsVerdict builder.verdictOf joint.motionBy joint.normedAxis joint.scaledAxis joint.unitAxis joint.keptAxis joint.notUnit joint.turnedOf joint.frameOf model.emptyModel model.motionOf model.jointOf model.linkOf model.wildJoint model.wildOf topology.activesOf topology.valueOf topology.holdsOf topology.activeJoint
+unfolding refusals.scan refusals.lowest refusals.found refusals.namedOf refusals.plainOf refusals.orElse build.byteSlots build.doubleSlots build.axisSlot build.axisSlots build.modelOf build.builtOf builder.sizedBy builder.axisOf builder.badAxis builder.badRow builder.badRotation builder.listsVerdict builder.verdictOf joint.motionBy axis.normedAxis axis.scaledAxis axis.unitAxis axis.keptAxis joint.notUnit joint.turnedOf joint.frameOf model.emptyModel model.motionOf model.jointOf model.linkOf model.wildJoint model.wildOf topology.activesOf topology.valueOf topology.holdsOf topology.activeJoint
 open-arm = Unit {0}
 
 open-calls : Type 0

@@ -7,7 +7,7 @@ use Rattle.calls.specs.Position.{Result}
 use Rattle.calls.specs.declared.position.Answer.{Answer}
 use Rattle.square_root.proofs.sqrt.Reads as sqrt
 use Rattle.half_turn.proofs.half_turn.Reads as half-turn
-use Rattle.arm.proofs.build.build.Reads as build
+use Rattle.builder.proofs.build.build.Reads as build
 use Rattle.mass_matrix.proofs.column.column.Reads as column
 use Rattle.dynamics.proofs.start.Reads as start
 use Rattle.dynamics.proofs.portion.Reads as portion

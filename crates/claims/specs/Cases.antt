@@ -18,9 +18,9 @@ use Rattle.refusals.specs.declared.Verdict.the-variants.{Fine}
 use Rattle.refusals.specs.declared.Verdict.the-variants as verdict
 use Rattle.spatial.specs.Twist.{zerosOf}
 use Rattle.slots.specs.Slots.{vec3At}
-use Rattle.arm.specs.Build.{builtOf}
+use Rattle.builder.specs.Build.{builtOf}
 use Rattle.arm.specs.Joint.{components}
-use Rattle.arm.specs.declared.build.Built.{Built}
+use Rattle.builder.specs.declared.build.Built.{Built}
 use Rattle.calls.specs.Position.{Result, wholeOf}
 use Rattle.calls.specs.declared.position.Outcome.{Outcome}
 use Rattle.calls.specs.declared.position.Outcome.the-variants.{Open, Accepted}

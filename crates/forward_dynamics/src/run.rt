@@ -12,8 +12,8 @@ use calls::position;
 use calls::position::Outcome;
 use calls::position::Position;
 use calls::position::Progress;
-use forward_visits::kernel;
 use forward_slots::layout;
+use forward_visits::kernel;
 use numbers::quaternion::Quaternion;
 use spatial::twist::Twist;
 

@@ -15,8 +15,9 @@ use Rattle.readings.specs.declared.read.Named.the-variants.{Is, No}
 use Rattle.requests.specs.declared.answer.Name.{Name}
 use Rattle.requests.specs.declared.answer.Name.the-variants.{Model, Lend, Calculation, Column, Root, Repeat, Resume, HalfTurn, Unknown}
 use Rattle.replies.specs.Replies.{replyOf}
-use Rattle.requests.specs.Models.{modelRequest, lendRequest}
-use Rattle.requests.specs.Routines.{rootRequest, halfTurnRequest}
+use Rattle.model_requests.specs.Lend.{lendRequest}
+use Rattle.model_requests.specs.Model.{modelRequest}
+use Rattle.routine_requests.specs.RoutineRequests.{rootRequest, halfTurnRequest}
 
 -- a calculation's name, or none
 abbrev pub kindName : Named → Name

@@ -1,0 +1,71 @@
+-- The builder's checks (document 01, "Refusal numbers" 1 to 7). Definitions only.
+use mathlib.Core.Bool.{Bool, true, false, not, _&&_}
+use mathlib.Core.List.{List}
+use mathlib.Core.Path.{_≡_}
+use Prim.Native.Nat.{ℕ, _+_, _*_, _≤_}
+use lib.Dec.{eqb, ltb}
+use lib.ListN.{length, take, drop}
+use lib.Ieee.{Float}
+use Rattle.numbers.specs.Double.{allFinite}
+use Rattle.refusals.specs.Refusals.{lowest, namedOf, plainOf, orElse}
+use Rattle.refusals.specs.declared.Verdict.{Verdict}
+use Rattle.slots.specs.Slots.{vec3At, frameAt}
+use Rattle.arm.specs.Joint.{notUnit}
+use Rattle.builder.specs.Axis.{keptAxis}
+use Rattle.arm.specs.Model.{kindOf, badParent, badKind}
+use Rattle.builder.specs.declared.axis.Axis.{Axis}
+use Rattle.builder.specs.declared.axis.Axis.the-variants.{Of, Bad}
+
+-- ---- one test each; those of 3 and 4 are the model's
+
+-- 2: the lengths that n joints and n + 1 links want
+unfoldable pub sizedBy : ℕ → ℕ → ℕ → ℕ → ℕ → ℕ → Bool
+sizedBy n parents kinds origins axes links = eqb parents n && eqb kinds n && eqb origins (n * 7) && eqb axes (n * 3) && eqb links ((n + 1) * 10)
+
+-- the axis that joint j keeps
+unfoldable pub axisOf : List ℕ → List Float → ℕ → Axis
+axisOf kinds axes j = keptAxis (kindOf kinds j) (vec3At axes (j * 3))
+
+-- 5: the axis rule
+abbrev pub refused : Axis → Bool
+refused (Of v) = false
+refused Bad = true
+
+unfoldable pub badAxis : List ℕ → List Float → ℕ → Bool
+badAxis kinds axes j = refused (axisOf kinds axes j)
+
+-- 6: row i of so many numbers has one not finite
+unfoldable pub badRow : ℕ → List Float → ℕ → Bool
+badRow size s i = not (allFinite (take size (drop (i * size) s)))
+
+-- 7: joint j's origin
+unfoldable pub badRotation : List Float → ℕ → Bool
+badRotation origins j = notUnit (frameAt origins (j * 7) .rotation)
+
+-- ---- all of them, in the order of the table
+
+-- 6 names the lowest joint with a bad origin, or else the lowest link
+unfoldable pub listsVerdict : ℕ → List ℕ → List ℕ → List Float → List Float → List Float → Verdict
+listsVerdict n parents kinds origins axes links =
+    orElse (namedOf 3 (lowest (badParent parents) n))
+    (orElse (namedOf 4 (lowest (badKind kinds) n))
+    (orElse (namedOf 5 (lowest (badAxis kinds axes) n))
+    (orElse (orElse (namedOf 6 (lowest (badRow 7 origins) n)) (namedOf 6 (lowest (badRow 10 links) (n + 1))))
+    (namedOf 7 (lowest (badRotation origins) n)))))
+
+unfoldable pub verdictOf : ℕ → List ℕ → List ℕ → List Float → List Float → List Float → Verdict
+verdictOf n parents kinds origins axes links =
+    orElse (plainOf 1 (ltb 32 n))
+    (orElse (plainOf 2 (not (sizedBy n (length parents) (length kinds) (length origins) (length axes) (length links))))
+    (listsVerdict n parents kinds origins axes links))
+
+-- ---- what the steps of the code promise each other
+
+-- 1 and 2 have passed
+pub record Sized (n parents kinds origins axes links : ℕ) : Type 0 where
+  pub few : n ≤ 32
+  pub one-parent : parents ≡ n
+  pub one-kind : kinds ≡ n
+  pub seven : origins ≡ n * 7
+  pub three : axes ≡ n * 3
+  pub ten : links ≡ (n + 1) * 10

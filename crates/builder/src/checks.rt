@@ -1,0 +1,160 @@
+// The builder's checks: refusals 1 to 7.
+ghost use mathlib.Core.Path.{_≡_};
+ghost use Prim.Native.Nat.{_+_, _*_, _≤_, _<_};
+ghost use lib.ListN.{length};
+ghost use Rattle.refusals.specs.Refusals.{lowest};
+ghost use Rattle.arm.specs.Model.{badParent, badKind};
+ghost use Rattle.builder.specs.Checks.{Sized, sizedBy, axisOf, badAxis, badRow, badRotation, listsVerdict, verdictOf};
+use arm::joint;
+use crate::axis;
+use crate::axis::Axis;
+use numbers::double;
+use refusals::Place;
+use refusals::Verdict;
+
+// Whether the five lists are as long as n joints and n + 1 links want them.
+fn sized(n: usize, parents: usize, kinds: usize, origins: usize, axes: usize, links: usize) -> bool
+    requires { ⌜ n ≤ 32 ⌝ }
+    ensures { λ r. ⌜ r ≡ sizedBy n parents kinds origins axes links ⌝ }
+{
+    let joints = double::both(parents == n, kinds == n);
+    let numbers = double::both(double::both(joints, origins == n * 7), axes == n * 3);
+    double::both(numbers, links == (n + 1) * 10)
+}
+
+fn bad_parent(n: usize, parents: &[u64]) -> Place
+    requires { ⌜ n ≤ length (now parents) ⌝ }
+    ensures { λ r. ⌜ r ≡ lowest (badParent (now (parents .entry))) n ⌝ }
+{
+    let mut j: usize = 0;
+    while j < n {
+        if (j as u64) < parents[j] {
+            return Place::At(j);
+        }
+        j += 1;
+    }
+    Place::Nothing
+}
+
+fn bad_kind(n: usize, kinds: &[u64]) -> Place
+    requires { ⌜ n ≤ length (now kinds) ⌝ }
+    ensures { λ r. ⌜ r ≡ lowest (badKind (now (kinds .entry))) n ⌝ }
+{
+    let mut j: usize = 0;
+    while j < n {
+        if 2 < kinds[j] {
+            return Place::At(j);
+        }
+        j += 1;
+    }
+    Place::Nothing
+}
+
+// The axis that joint j keeps.
+pub fn axis_at<'a>(kinds: &'a [u64], axes: &'a [f64], j: usize) -> Axis
+    requires { ⌜ (j < length (now kinds)) × (j * 3 + 3 ≤ length (now axes)) ⌝ }
+    ensures { λ r. ⌜ r ≡ axisOf (now (kinds .entry)) (now (axes .entry)) j ⌝ }
+{
+    axis::kept_axis(kinds[j], slots::vec3_at(axes, j * 3))
+}
+
+fn bad_axis<'a>(n: usize, kinds: &'a [u64], axes: &'a [f64]) -> Place
+    requires { ⌜ (n ≤ length (now kinds)) × (n * 3 ≤ length (now axes)) ⌝ }
+    ensures { λ r. ⌜ r ≡ lowest (badAxis (now (kinds .entry)) (now (axes .entry))) n ⌝ }
+{
+    let mut j: usize = 0;
+    while j < n {
+        let axis = axis_at(kinds, axes, j);
+        match axis {
+            Axis::Of(_) => {}
+            Axis::Bad => {
+                return Place::At(j);
+            }
+        }
+        j += 1;
+    }
+    Place::Nothing
+}
+
+// The lowest of n rows of so many numbers that has one not finite.
+fn bad_row(n: usize, size: usize, s: &[f64]) -> Place
+    requires { ⌜ n * size ≤ length (now s) ⌝ }
+    ensures { λ r. ⌜ r ≡ lowest (badRow size (now (s .entry))) n ⌝ }
+{
+    let mut i: usize = 0;
+    while i < n {
+        let at = i * size;
+        if !double::all_finite(&s[at..at + size]) {
+            return Place::At(i);
+        }
+        i += 1;
+    }
+    Place::Nothing
+}
+
+fn bad_rotation(n: usize, origins: &[f64]) -> Place
+    requires { ⌜ n * 7 ≤ length (now origins) ⌝ }
+    ensures { λ r. ⌜ r ≡ lowest (badRotation (now (origins .entry))) n ⌝ }
+{
+    let mut j: usize = 0;
+    while j < n {
+        let origin = slots::frame_at(origins, j * 7);
+        if joint::not_unit(origin.rotation) {
+            return Place::At(j);
+        }
+        j += 1;
+    }
+    Place::Nothing
+}
+
+// Refusals 3 to 7: each check is made, and the first that refuses counts.
+fn judged_lists<'a>(
+    n: usize,
+    parents: &'a [u64],
+    kinds: &'a [u64],
+    origins: &'a [f64],
+    axes: &'a [f64],
+    links: &'a [f64],
+) -> Verdict
+    requires { ⌜ Sized n (length (now parents)) (length (now kinds)) (length (now origins)) (length (now axes)) (length (now links)) ⌝ }
+    ensures { λ r. ⌜ r ≡ listsVerdict n (now (parents .entry)) (now (kinds .entry)) (now (origins .entry)) (now (axes .entry)) (now (links .entry)) ⌝ }
+{
+    let v3 = refusals::named(3, bad_parent(n, parents));
+    let v4 = refusals::named(4, bad_kind(n, kinds));
+    let v5 = refusals::named(5, bad_axis(n, kinds, axes));
+    let origin6 = refusals::named(6, bad_row(n, 7, origins));
+    let link6 = refusals::named(6, bad_row(n + 1, 10, links));
+    let v7 = refusals::named(7, bad_rotation(n, origins));
+    let v6 = refusals::first(origin6, link6);
+    refusals::first(
+        v3,
+        refusals::first(v4, refusals::first(v5, refusals::first(v6, v7))),
+    )
+}
+
+// The smallest refusal number that applies.
+pub fn judged<'a>(
+    n: usize,
+    parents: &'a [u64],
+    kinds: &'a [u64],
+    origins: &'a [f64],
+    axes: &'a [f64],
+    links: &'a [f64],
+) -> Verdict
+    ensures { λ r. ⌜ r ≡ verdictOf n (now (parents .entry)) (now (kinds .entry)) (now (origins .entry)) (now (axes .entry)) (now (links .entry)) ⌝ }
+{
+    if 32 < n {
+        return Verdict::Refused(1, Place::Nothing);
+    }
+    if !sized(
+        n,
+        parents.len(),
+        kinds.len(),
+        origins.len(),
+        axes.len(),
+        links.len(),
+    ) {
+        return Verdict::Refused(2, Place::Nothing);
+    }
+    judged_lists(n, parents, kinds, origins, axes, links)
+}
