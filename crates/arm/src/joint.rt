@@ -2,11 +2,11 @@
 ghost use mathlib.Core.Path.{_≡_};
 ghost use Rattle.half_turn.specs.HalfTurn.{halfTurnOf};
 ghost use Rattle.arm.specs.Joint.{notUnit, turnedOf, frameOf};
+use half_turn::HalfTurn;
 use numbers::double;
 use numbers::quaternion::Quaternion;
 use numbers::vec3::Vec3;
 use spatial::frame::Frame;
-use square_root::Root;
 
 pub enum Motion {
     Turn(Vec3),

@@ -17,7 +17,7 @@ use Rattle.requests.specs.declared.answer.Name.the-variants.{Model, Lend
 use Rattle.replies.specs.Replies.{replyOf}
 use Rattle.model_requests.specs.Lend.{lendRequest}
 use Rattle.model_requests.specs.Model.{modelRequest}
-use Rattle.routine_requests.specs.RoutineRequests.{rootRequest, halfTurnRequest}
+use Rattle.routine_requests.specs.Routines.{rootRequest, halfTurnRequest}
 
 -- a calculation's name, or none
 abbrev pub kindName : Named → Name

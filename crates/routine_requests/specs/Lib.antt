@@ -1,1 +1,1 @@
-pub mod RoutineRequests
+pub mod Routines

@@ -5,7 +5,7 @@ use lib.ListN.{take}
 use borrow.Author.Needs.{needs}
 use Rattle.writings.specs.Column.{columnRequest}
 use Rattle.calculation_requests.specs.Request.{calculateRequest, repeatRequest, resumeRequest}
-use Rattle.routine_requests.specs.RoutineRequests.{rootRequest, halfTurnRequest}
+use Rattle.routine_requests.specs.Routines.{rootRequest, halfTurnRequest}
 use Rattle.requests.proofs.answer.Laws.{request-is, kept}
 use Rattle.requests.proofs.answer.request.Statement.{statement}
 use Rattle.requests.proofs.answer.request.Tie as tie
@@ -19,8 +19,8 @@ use Rattle.replies.proofs.error.Reads as error-reads
 use Rattle.requests.proofs.answer.name_of.Reads as name-of-reads
 use Rattle.model_requests.proofs.lend.lend.Reads as lend-reads
 use Rattle.model_requests.proofs.model.model.Reads as model-reads
-use Rattle.routine_requests.proofs.half_turn.Reads as half-turn-reads
-use Rattle.routine_requests.proofs.root.Reads as root-reads
+use Rattle.routine_requests.proofs.routines.half_turn.Reads as half-turn-reads
+use Rattle.routine_requests.proofs.routines.root.Reads as root-reads
 use Rattle.words.proofs.read.next_word.Reads as next-word-reads
 
 next-word-requires : tie.Need-next-word-requires

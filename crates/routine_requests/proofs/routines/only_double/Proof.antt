@@ -2,9 +2,9 @@
 use mathlib.Core.Path.{sym, _∙_}
 use borrow.Author.Needs.{needs}
 use Rattle.words.specs.Read.{end}
-use Rattle.routine_requests.specs.RoutineRequests.{onlyDouble}
-use Rattle.routine_requests.proofs.only_double.Statement.{statement}
-use Rattle.routine_requests.proofs.only_double.Tie as tie
+use Rattle.routine_requests.specs.Routines.{onlyDouble}
+use Rattle.routine_requests.proofs.routines.only_double.Statement.{statement}
+use Rattle.routine_requests.proofs.routines.only_double.Tie as tie
 
 next-number-requires : tie.Need-next-number-requires
 next-number-requires c κs = search needs

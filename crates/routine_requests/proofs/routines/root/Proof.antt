@@ -1,8 +1,8 @@
 -- `root` meets its contract. Each way out is its case of `rootRequest`.
 use borrow.Author.Needs.{needs}
-use Rattle.routine_requests.specs.RoutineRequests.{rootRequest}
-use Rattle.routine_requests.proofs.root.Statement.{statement}
-use Rattle.routine_requests.proofs.root.Tie as tie
+use Rattle.routine_requests.specs.Routines.{rootRequest}
+use Rattle.routine_requests.proofs.routines.root.Statement.{statement}
+use Rattle.routine_requests.proofs.routines.root.Tie as tie
 
 only-double-requires : tie.Need-only-double-requires
 only-double-requires c κs = search needs

@@ -6,8 +6,8 @@ use lib.ListN.{take}
 use borrow.Author.Needs.{needs}
 use Rattle.words.specs.Write.{bytes, doubleText}
 use Rattle.words.proofs.write.Laws.{written}
-use Rattle.routine_requests.proofs.put_root.Statement.{statement}
-use Rattle.routine_requests.proofs.put_root.Tie as tie
+use Rattle.routine_requests.proofs.routines.put_root.Statement.{statement}
+use Rattle.routine_requests.proofs.routines.put_root.Tie as tie
 
 enum-known-r : tie.Need-enum-known-r
 enum-known-r c = search needs

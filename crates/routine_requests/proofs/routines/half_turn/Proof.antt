@@ -1,8 +1,8 @@
 -- `half_turn` meets its contract. Each way out is its case of `halfTurnRequest`.
 use borrow.Author.Needs.{needs}
-use Rattle.routine_requests.specs.RoutineRequests.{halfTurnRequest}
-use Rattle.routine_requests.proofs.half_turn.Statement.{statement}
-use Rattle.routine_requests.proofs.half_turn.Tie as tie
+use Rattle.routine_requests.specs.Routines.{halfTurnRequest}
+use Rattle.routine_requests.proofs.routines.half_turn.Statement.{statement}
+use Rattle.routine_requests.proofs.routines.half_turn.Tie as tie
 
 only-double-requires : tie.Need-only-double-requires
 only-double-requires c κs = search needs

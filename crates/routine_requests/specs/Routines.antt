@@ -11,8 +11,8 @@ use Rattle.square_root.specs.declared.Root.{Root}
 use Rattle.square_root.specs.declared.Root.the-variants.{Is as Root·Is, No as Root·No}
 use Rattle.half_turn.specs.declared.HalfTurn.{HalfTurn}
 use Rattle.half_turn.specs.declared.HalfTurn.the-variants.{Of, OutOfRange}
-use Rattle.routine_requests.specs.declared.Only.{Only}
-use Rattle.routine_requests.specs.declared.Only.the-variants.{Is, No}
+use Rattle.routine_requests.specs.declared.routines.Only.{Only}
+use Rattle.routine_requests.specs.declared.routines.Only.the-variants.{Is, No}
 
 -- one double, and no word behind it
 unfoldable pub onlyDouble : Reader Float
