@@ -15,7 +15,9 @@ use replies::Reply;
 use replies::error;
 use replies::put_refused;
 use words::list::Listed;
+use words::list::double_buffer;
 use words::list::doubles;
+use words::list::number_buffer;
 use words::list::numbers;
 use words::read::Cursor;
 use words::read::Next;
@@ -48,14 +50,6 @@ pub struct Bytes {
 pub struct Lent {
     pub fine: bool,
     pub model: Model,
-}
-
-fn number_buffer() -> [u64; 4096] {
-    [0; 4096]
-}
-
-fn double_buffer() -> [f64; 4096] {
-    [0.0; 4096]
 }
 
 // N PARENTS KINDS ORIGINS AXES LINKS, and no word behind them.
