@@ -25,22 +25,12 @@ use readings::read::next_inputs;
 use readings::read::next_kind;
 use readings::read::next_position;
 use replies::error;
+use words::list::double_buffer;
+use words::list::number_buffer;
 use words::read::Cursor;
 use words::read::Next;
 use words::read::next_number;
 use writings::write::put_made;
-
-fn number_buffer() -> [u64; 4096]
-    ensures { λ r. ⌜ 4096 ≡ length r ⌝ }
-{
-    [0; 4096]
-}
-
-fn double_buffer() -> [f64; 4096]
-    ensures { λ r. ⌜ 4096 ≡ length r ⌝ }
-{
-    [0.0; 4096]
-}
 
 fn output_buffer() -> [f64; 2048]
     ensures { λ r. ⌜ 2048 ≡ length r ⌝ }

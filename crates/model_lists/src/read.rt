@@ -27,14 +27,6 @@ pub enum Handed {
     Bad,
 }
 
-pub fn number_buffer() -> [u64; 4096] {
-    [0; 4096]
-}
-
-pub fn double_buffer() -> [f64; 4096] {
-    [0.0; 4096]
-}
-
 // N PARENTS KINDS ORIGINS AXES LINKS, and no word behind them.
 pub fn read_numbers(
     s: &[u8],

@@ -8,11 +8,11 @@ ghost use Rattle.model_requests.specs.Lend.{lendRequest};
 use arm::model::Model;
 use model_lists::lent::lent_model;
 use model_lists::read::Handed;
-use model_lists::read::double_buffer;
-use model_lists::read::number_buffer;
 use model_lists::read::read_numbers;
 use replies::Reply;
 use replies::error;
+use words::list::double_buffer;
+use words::list::number_buffer;
 use words::read::Cursor;
 use words::write::put;
 

@@ -9,13 +9,13 @@ ghost use Rattle.model_requests.specs.Model.{builtLine, modelRequest};
 use arm::model::Model;
 use builder::build::build;
 use model_lists::read::Handed;
-use model_lists::read::double_buffer;
-use model_lists::read::number_buffer;
 use model_lists::read::read_numbers;
 use refusals::Verdict;
 use replies::Reply;
 use replies::error;
 use replies::put_refused;
+use words::list::double_buffer;
+use words::list::number_buffer;
 use words::read::Cursor;
 use words::write::put;
 

@@ -1,4 +1,5 @@
 // Lists of numbers and of doubles, read into a lent slice: a length, then that many words.
+ghost use mathlib.Core.Path.{_≡_};
 ghost use Prim.Native.Nat.{_≤_};
 ghost use lib.ListN.{length};
 ghost use lib.Ieee.{binary64, ofBits};
@@ -13,6 +14,19 @@ use crate::read::next_number;
 pub enum Listed {
     Got(usize, Cursor),
     Bad,
+}
+
+// Room for any list.
+pub fn number_buffer() -> [u64; 4096]
+    ensures { λ r. ⌜ 4096 ≡ length r ⌝ }
+{
+    [0; 4096]
+}
+
+pub fn double_buffer() -> [f64; 4096]
+    ensures { λ r. ⌜ 4096 ≡ length r ⌝ }
+{
+    [0.0; 4096]
 }
 
 fn next_size(s: &[u8], c: Cursor) -> Next

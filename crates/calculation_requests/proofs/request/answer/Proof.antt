@@ -10,8 +10,8 @@ use Rattle.calculation_requests.proofs.request.answer.Statement.{statem
 use Rattle.calculation_requests.proofs.request.answer.Tie as tie
 use Rattle.calculation_requests.proofs.request.answer.Reads as reads
 use Rattle.calculation_requests.proofs.request.answer.Lts as lts
-use Rattle.calculation_requests.proofs.request.double_buffer.Reads as double-buffer-reads
-use Rattle.calculation_requests.proofs.request.number_buffer.Reads as number-buffer-reads
+use Rattle.words.proofs.list.double_buffer.Reads as double-buffer-reads
+use Rattle.words.proofs.list.number_buffer.Reads as number-buffer-reads
 use Rattle.calculation_requests.proofs.request.output_buffer.Reads as output-buffer-reads
 use Rattle.calculation_requests.proofs.request.put_answer.Reads as put-answer-reads
 

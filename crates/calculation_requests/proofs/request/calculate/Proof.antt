@@ -14,9 +14,9 @@ use Rattle.readings.proofs.read.last_lent.Reads as last-lent-reads
 use Rattle.readings.proofs.read.next_calculation.Reads as next-calculation-reads
 use Rattle.readings.proofs.read.next_inputs.Reads as next-inputs-reads
 use Rattle.calculation_requests.proofs.request.answer.Reads as answer-reads
-use Rattle.calculation_requests.proofs.request.double_buffer.Reads as double-buffer-reads
+use Rattle.words.proofs.list.double_buffer.Reads as double-buffer-reads
 use Rattle.calculation_requests.proofs.request.idle.Reads as idle-reads
-use Rattle.calculation_requests.proofs.request.number_buffer.Reads as number-buffer-reads
+use Rattle.words.proofs.list.number_buffer.Reads as number-buffer-reads
 use Rattle.replies.proofs.error.Reads as error-reads
 
 double-buffer-requires : tie.Need-double-buffer-requires
