@@ -7,6 +7,7 @@ use lib.Ieee.{Float}
 use Rattle.numbers.specs.Double.{0·0}
 use Rattle.numbers.specs.Vec3.{dotOf}
 use Rattle.spatial.specs.Operators.{wrenchToParent}
+use Rattle.spatial.specs.Wrench.{vectorOf}
 use Rattle.spatial.specs.declared.wrench.Wrench.{Wrench}
 use Rattle.slots.specs.Slots.{frameAt}
 use Rattle.arm.specs.Model.{parentOf, motionOf}
@@ -47,3 +48,16 @@ climb up act (suc k) j s = cond (eqb (up j) 0) (act j s) (climb up act k (up j -
 -- from joint j to the root; j + 1 joints are enough, since a parent link is at most j
 unfoldable pub walkOf : Plan → List ℕ → List ℕ → List Float → ℕ → ℕ → Wrench × List Float → Wrench × List Float
 walkOf p parents kinds axes column j s = climb (parentOf parents) (walkStep p kinds axes column) (suc j) j s
+
+-- ---- what the steps of the code promise each other
+
+-- a plan and a wrench from their numbers
+abbrev pub planWith : ℕ → ℕ → ℕ → Plan
+planWith n lead side = record { n = n; lead = lead; side = side }
+
+abbrev pub wrenchWith : Float → Float → Float → Float → Float → Float → Wrench
+wrenchWith tx ty tz fx fy fz = record { torque = record { x = tx; y = ty; z = tz }; force = record { x = fx; y = fy; z = fz } }
+
+-- the numbers of the wrench at a floating root, in the place of old ones, and the workspace
+unfoldable pub endedOf : ℕ → List Float → Wrench × List Float → List Float × List Float
+endedOf lead old s = (cond (eqb lead 0) old (vectorOf (s .0)), s .1)

@@ -8,6 +8,7 @@ ghost use Rattle.arm.specs.Model.{bundle, Tree, kindOf, parentOf};
 ghost use Rattle.arm.specs.Topology.{activesOf, activeJoint};
 ghost use Rattle.calls.specs.Plan.{Fit};
 ghost use Rattle.matrix_visits.specs.Plan.{compositePlace, Room, placeOf};
+ghost use Rattle.matrix_visits.specs.Walk.{walkOf, endedOf};
 ghost use Rattle.matrix_visits.specs.Kernel.{begunOf, frameVisit, addInto, compositeVisit, columnVisit, columnFound, worldAxis, baseLoad, baseLoadsTo, rootColumns, tested, rootVisit, jointVisit, visitOf};
 use crate::composite;
 use crate::plan;
@@ -101,6 +102,48 @@ fn composite_visit(p: Plan, parents: &[u8; 32], ws: &mut [f64], j: usize)
     add_into(ws, (parent - 1) * plan::JOINT + plan::COMPOSITE, j);
 }
 
+// The walk from a wrench at joint j.
+fn walked<'a>(
+    p: Plan,
+    parents: &'a [u8; 32],
+    kinds: &'a [u8; 32],
+    axes: &'a [f64; 96],
+    numbers: &'a [u8; 33],
+    ws: &mut [f64],
+    end: &mut [f64; 6],
+    j: usize,
+    column: usize,
+    w: Wrench,
+)
+    requires { ⌜ Fit p (now parents) (now kinds) (now numbers) × Room p (length (now ws)) × (j < p .n) × (column < p .side) ⌝ }
+    ensures { λ _. ⌜ (now (end .exit), now (ws .exit)) ≡ endedOf (p .lead) (now (end .entry)) (walkOf p (now (parents .entry)) (now (kinds .entry)) (now (axes .entry)) column j (w, now (ws .entry))) ⌝ }
+{
+    let n = p.n;
+    let lead = p.lead;
+    let side = p.side;
+    let t = w.torque;
+    let f = w.force;
+    walk::walk(
+        n,
+        lead,
+        side,
+        parents,
+        kinds,
+        axes,
+        numbers,
+        ws,
+        end,
+        j,
+        column,
+        t.x,
+        t.y,
+        t.z,
+        f.x,
+        f.y,
+        f.z,
+    );
+}
+
 // The column of active joint j: the walk, and the base's rows where it floats.
 fn column_visit<'a>(
     p: Plan,
@@ -115,29 +158,29 @@ fn column_visit<'a>(
     requires { ⌜ Fit p (now parents) (now kinds) (now numbers) × Room p (length (now ws)) × (j < p .n) × (kindOf (now kinds) j ≡ 2 → ⊥) ⌝ }
     ensures { λ _. ⌜ now (ws .exit) ≡ columnVisit p r (now (parents .entry)) (now (kinds .entry)) (now (axes .entry)) j (now (ws .entry)) ⌝ }
 {
+    let lead = p.lead;
     let column = plan::row_of(p, parents, kinds, numbers, j);
     let motion = model::motion_at(kinds, axes, j);
     let c = composite::composite_at(ws, j * plan::JOINT + plan::COMPOSITE);
     let force = composite::force(motion, c);
-    let t = force.torque;
-    let f = force.force;
-    walk::walk(
+    let mut end = [0.0; 6];
+    walked(
         p,
-        r,
         parents,
         kinds,
         axes,
         numbers,
         ws,
+        &mut end,
         j,
         column,
-        t.x,
-        t.y,
-        t.z,
-        f.x,
-        f.y,
-        f.z,
+        force,
     );
+    if lead == 0 {
+        return;
+    }
+    let w = Wrench::from_vector(&end);
+    walk::base_rows(p, r, ws, column, w);
 }
 
 // The column of active number k.

@@ -3,15 +3,14 @@ ghost use mathlib.Core.Path.{_≡_};
 ghost use Prim.Native.Nat.{_+_, _≤_, _<_};
 ghost use lib.ListN.{length};
 ghost use Rattle.spatial.specs.Operators.{wrenchToParent};
-ghost use Rattle.spatial.specs.Wrench.{rotatedOf};
+ghost use Rattle.spatial.specs.Wrench.{rotatedOf, vectorOf};
 ghost use Rattle.slots.specs.Slots.{frameAt};
 ghost use Rattle.arm.specs.Joint.{kindNumber};
 ghost use Rattle.arm.specs.Model.{kindOf};
 ghost use Rattle.arm.specs.Topology.{activesOf};
 ghost use Rattle.calls.specs.Plan.{Fit};
 ghost use Rattle.matrix_visits.specs.Plan.{framePlace, Room, putPair, putSix};
-ghost use Rattle.matrix_visits.specs.Walk.{entryOf, putEntry, putHere, walkOf};
-ghost use Rattle.matrix_visits.specs.Kernel.{baseRows};
+ghost use Rattle.matrix_visits.specs.Walk.{entryOf, putEntry, putHere, walkOf, planWith, wrenchWith, endedOf};
 use crate::plan;
 use arm::joint::Motion;
 use arm::model;
@@ -102,7 +101,7 @@ fn carried(ws: &[f64], j: usize, w: Wrench) -> Wrench
 }
 
 // The base's rows of a column, from the wrench at the root.
-fn base_rows(p: Plan, r: Quaternion, ws: &mut [f64], column: usize, w: Wrench)
+pub fn base_rows(p: Plan, r: Quaternion, ws: &mut [f64], column: usize, w: Wrench)
     requires { ⌜ Room p (length (now ws)) × (6 ≤ p .side) × (column < p .side) ⌝ }
     ensures { λ _. ⌜ now (ws .exit) ≡ putSix p column (rotatedOf w r) (now (ws .entry)) ⌝ }
 {
@@ -111,7 +110,7 @@ fn base_rows(p: Plan, r: Quaternion, ws: &mut [f64], column: usize, w: Wrench)
 }
 
 fn wrench(tx: f64, ty: f64, tz: f64, fx: f64, fy: f64, fz: f64) -> Wrench
-    ensures { λ r. ⌜ r ≡ record { torque = record { x = tx; y = ty; z = tz }; force = record { x = fx; y = fy; z = fz } } ⌝ }
+    ensures { λ r. ⌜ r ≡ wrenchWith tx ty tz fx fy fz ⌝ }
 {
     let torque = Vec3 {
         x: tx,
@@ -126,16 +125,25 @@ fn wrench(tx: f64, ty: f64, tz: f64, fx: f64, fy: f64, fz: f64) -> Wrench
     Wrench { torque, force }
 }
 
-// From joint j to its parent until the root is reached, and the base's rows where it floats.
-// The wrench comes as six numbers, which stay in registers, and two joints are done a call, which costs half as much as a joint. A fixed root needs no wrench.
+// The wrench that the walk ends with.
+fn put_end(end: &mut [f64; 6], w: Wrench)
+    ensures { λ _. ⌜ now (end .exit) ≡ vectorOf w ⌝ }
+{
+    *end = w.to_vector();
+}
+
+// From joint j to its parent until the root is reached; where it floats, `end` is then the wrench there.
+// Plan and wrench come as numbers, which stay in registers: a struct is handed over through memory, which costs 40 % at 32 joints.
 pub fn walk<'a>(
-    p: Plan,
-    r: Quaternion,
+    n: usize,
+    lead: usize,
+    side: usize,
     parents: &'a [u8; 32],
     kinds: &'a [u8; 32],
     axes: &'a [f64; 96],
     numbers: &'a [u8; 33],
     ws: &mut [f64],
+    end: &mut [f64; 6],
     j: usize,
     column: usize,
     tx: f64,
@@ -145,11 +153,10 @@ pub fn walk<'a>(
     fy: f64,
     fz: f64,
 )
-    requires { ⌜ Fit p (now parents) (now kinds) (now numbers) × Room p (length (now ws)) × (j < p .n) × (column < p .side) ⌝ }
-    ensures { λ _. ⌜ now (ws .exit) ≡ baseRows p r column (walkOf p (now (parents .entry)) (now (kinds .entry)) (now (axes .entry)) column j (record { torque = record { x = tx; y = ty; z = tz }; force = record { x = fx; y = fy; z = fz } }, now (ws .entry))) ⌝ }
+    requires { ⌜ Fit (planWith n lead side) (now parents) (now kinds) (now numbers) × Room (planWith n lead side) (length (now ws)) × (j < n) × (column < side) ⌝ }
+    ensures { λ _. ⌜ (now (end .exit), now (ws .exit)) ≡ endedOf lead (now (end .entry)) (walkOf (planWith n lead side) (now (parents .entry)) (now (kinds .entry)) (now (axes .entry)) column j (wrenchWith tx ty tz fx fy fz, now (ws .entry))) ⌝ }
 {
-    let n = p.n;
-    let lead = p.lead;
+    let p = Plan { n, lead, side };
     let w = wrench(tx, ty, tz, fx, fy, fz);
     put_here(p, parents, kinds, axes, numbers, ws, j, w, column);
     let parent = model::parent_at(n, parents, j);
@@ -158,31 +165,22 @@ pub fn walk<'a>(
     }
     let up = carried(ws, j, w);
     if parent == 0 {
-        base_rows(p, r, ws, column, up);
+        put_end(end, up);
         return;
     }
-    let i = parent - 1;
-    put_here(p, parents, kinds, axes, numbers, ws, i, up, column);
-    let grand = model::parent_at(n, parents, i);
-    if grand + lead == 0 {
-        return;
-    }
-    let upper = carried(ws, i, up);
-    if grand == 0 {
-        base_rows(p, r, ws, column, upper);
-        return;
-    }
-    let t = upper.torque;
-    let f = upper.force;
+    let t = up.torque;
+    let f = up.force;
     walk(
-        p,
-        r,
+        n,
+        lead,
+        side,
         parents,
         kinds,
         axes,
         numbers,
         ws,
-        grand - 1,
+        end,
+        parent - 1,
         column,
         t.x,
         t.y,

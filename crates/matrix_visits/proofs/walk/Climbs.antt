@@ -1,4 +1,4 @@
--- The walk, a joint at a time, and the base's rows after it. Assumes nothing.
+-- The walk, a joint at a time, and the wrench that it ends with. Assumes nothing.
 use mathlib.Core.Bool.{Bool, true, false, cond}
 use mathlib.Core.List.{List}
 use mathlib.Core.Path.{_≡_, refl, sym, ap, _∙_}
@@ -7,15 +7,13 @@ use native.Mathlib.Omega.{arith}
 use borrow.Author.Tests.{eqb-false, eq-eqb, ne-eqb}
 use lib.Dec.{eqb}
 use lib.Ieee.{Float}
-use Rattle.numbers.specs.declared.quaternion.Quaternion.{Quaternion}
 use Rattle.spatial.specs.Operators.{wrenchToParent}
-use Rattle.spatial.specs.Wrench.{rotatedOf}
+use Rattle.spatial.specs.Wrench.{vectorOf}
 use Rattle.spatial.specs.declared.wrench.Wrench.{Wrench}
 use Rattle.slots.specs.Slots.{frameAt}
 use Rattle.arm.specs.Model.{parentOf, Tree}
-use Rattle.matrix_visits.specs.Plan.{framePlace, putSix}
-use Rattle.matrix_visits.specs.Walk.{putHere, walkStep, climb, walkOf}
-use Rattle.matrix_visits.specs.Kernel.{baseRows}
+use Rattle.matrix_visits.specs.Plan.{framePlace}
+use Rattle.matrix_visits.specs.Walk.{putHere, walkStep, climb, walkOf, wrenchWith, endedOf}
 use Rattle.calls.specs.declared.plan.Plan.{Plan}
 
 same-cond : {S : Type 0} (b : Bool) (x y z : S) → (b ≡ false → y ≡ z) → cond b x y ≡ cond b x z
@@ -57,33 +55,34 @@ module _ (p : Plan) (parents kinds : List ℕ) (axes : List Float) (column j : �
       ∙ ap (climb (parentOf parents) (walkStep p kinds axes column) j (parentOf parents j - 1)) e
       ∙ sym (climb-goes (parentOf parents) (walkStep p kinds axes column) j j s z)
 
--- ---- the base's rows
+-- ---- what the walk ends with
 
-module _ (p : Plan) (r : Quaternion) (column : ℕ) (s : Wrench × List Float) where
-  base-fixed : p .lead ≡ 0 → s .1 ≡ baseRows p r column s
-  unfolding baseRows
-  base-fixed z = simp (eq-eqb (p .lead) 0 z)
+module _ (lead : ℕ) (old : List Float) (s : Wrench × List Float) where
+  ended-fixed : lead ≡ 0 → (old, s .1) ≡ endedOf lead old s
+  unfolding endedOf
+  ended-fixed z = simp (eq-eqb lead 0 z)
 
-  base-floats : (p .lead ≡ 0 → ⊥) → putSix p column (rotatedOf (s .0) r) (s .1) ≡ baseRows p r column s
-  unfolding baseRows
-  base-floats z = simp (ne-eqb (p .lead) 0 z)
+  ended-floats : (lead ≡ 0 → ⊥) → (vectorOf (s .0), s .1) ≡ endedOf lead old s
+  unfolding endedOf
+  ended-floats z = simp (ne-eqb lead 0 z)
 
-module _ (p : Plan) (r : Quaternion) (parents kinds : List ℕ) (axes : List Float) (column j : ℕ) (w : Wrench) (ws : List Float) {put : List Float} (e : put ≡ putHere p kinds axes column j w ws) where
-  stepped : (wrenchToParent (frameAt put (framePlace j)) w, put) ≡ walkStep p kinds axes column j (w, ws)
+module _ (p : Plan) (parents kinds : List ℕ) (axes : List Float) (column j : ℕ) (old ws : List Float) {tx ty tz fx fy fz : Float} {w : Wrench} {put : List Float} {parent : ℕ}
+    (is : w ≡ wrenchWith tx ty tz fx fy fz) (e : put ≡ putHere p kinds axes column j w ws) (u : parent ≡ parentOf parents j) where
+  stepped : (wrenchToParent (frameAt put (framePlace j)) w, put) ≡ walkStep p kinds axes column j (wrenchWith tx ty tz fx fy fz, ws)
   unfolding walkStep
-  stepped = rw e
+  stepped = rw (e, is)
 
   -- a fixed root throws the last wrench away
-  pub rows-fixed : parentOf parents j ≡ 0 → p .lead ≡ 0 → put ≡ baseRows p r column (walkOf p parents kinds axes column j (w, ws))
-  rows-fixed z l = base-fixed p r column _ l ∙ ap (baseRows p r column) (walk-ends p parents kinds axes column j (w, ws) _ stepped z)
+  pub end-fixed : parent ≡ 0 → p .lead ≡ 0 → (old, put) ≡ endedOf (p .lead) old (walkOf p parents kinds axes column j (wrenchWith tx ty tz fx fy fz, ws))
+  end-fixed z l = ended-fixed (p .lead) old _ l ∙ ap (endedOf (p .lead) old) (walk-ends p parents kinds axes column j (wrenchWith tx ty tz fx fy fz, ws) _ stepped (sym u ∙ z))
 
   module _ {up : Wrench} (f : up ≡ wrenchToParent (frameAt put (framePlace j)) w) where
-    moved : (up, put) ≡ walkStep p kinds axes column j (w, ws)
+    moved : (up, put) ≡ walkStep p kinds axes column j (wrenchWith tx ty tz fx fy fz, ws)
     moved = rw f stepped
 
-    pub rows-float : {out : List Float} → parentOf parents j ≡ 0 → (p .lead ≡ 0 → ⊥) → out ≡ putSix p column (rotatedOf up r) put → out ≡ baseRows p r column (walkOf p parents kinds axes column j (w, ws))
-    rows-float z l g = g ∙ base-floats p r column (up, put) l ∙ ap (baseRows p r column) (walk-ends p parents kinds axes column j (w, ws) _ moved z)
+    pub end-floats : {end : List Float} → parent ≡ 0 → (p .lead ≡ 0 → ⊥) → end ≡ vectorOf up → (end, put) ≡ endedOf (p .lead) old (walkOf p parents kinds axes column j (wrenchWith tx ty tz fx fy fz, ws))
+    end-floats z l g = rw g (ended-floats (p .lead) old (up, put) l ∙ ap (endedOf (p .lead) old) (walk-ends p parents kinds axes column j (wrenchWith tx ty tz fx fy fz, ws) _ moved (sym u ∙ z)))
 
-    pub rows-go : {out : List Float} (n : ℕ) → Tree n parents → j < n → (parentOf parents j ≡ 0 → ⊥) → out ≡ baseRows p r column (walkOf p parents kinds axes column (parentOf parents j - 1) (up, put)) →
-        out ≡ baseRows p r column (walkOf p parents kinds axes column j (w, ws))
-    rows-go n t h z g = g ∙ ap (baseRows p r column) (walk-goes p parents kinds axes column j (w, ws) _ moved n t h z)
+    pub end-goes : {out : List Float × List Float} → Tree (p .n) parents → j < p .n → (parent ≡ 0 → ⊥) → out ≡ endedOf (p .lead) old (walkOf p parents kinds axes column (parent - 1) (up, put)) →
+        out ≡ endedOf (p .lead) old (walkOf p parents kinds axes column j (wrenchWith tx ty tz fx fy fz, ws))
+    end-goes t h z g = rw u at g ∙ ap (endedOf (p .lead) old) (walk-goes p parents kinds axes column j (wrenchWith tx ty tz fx fy fz, ws) _ moved (p .n) t h (λ y. z (u ∙ y)))
