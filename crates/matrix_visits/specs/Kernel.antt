@@ -113,3 +113,9 @@ unfoldable pub visitOf : Plan → Quaternion → Model → List Float → ℕ �
 visitOf p r m q at ws =
     let begun = begunOf p (m .links) at ws in
     cond (ltb at (p .n + p .n + (p .side - p .lead))) (Open, jointVisit p r m q at begun) (rootVisit p r begun)
+
+-- ---- what the steps of the code promise each other
+
+-- the composite that a joint's is added to
+unfoldable pub intoPlace : ℕ → ℕ → ℕ
+intoPlace n parent = cond (eqb parent 0) (rootPlace n) (compositePlace (parent - 1))

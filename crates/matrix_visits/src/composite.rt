@@ -58,7 +58,12 @@ pub fn to_parent(c: Link, f: Frame) -> Link
     let t = f.translation;
     let mass = c.mass;
     let h = rotation.apply(c.moment);
-    let inertia = shifted(rotation.turned(c.inertia), mass, t, h);
+    let inertia = shifted(
+        rotation.times(c.inertia).times(rotation.transpose()),
+        mass,
+        t,
+        h,
+    );
     let moment = t.scale(mass).plus(h);
     Link {
         mass,

@@ -7,9 +7,9 @@ ghost use Rattle.slots.specs.Slots.{putWrench};
 ghost use Rattle.arm.specs.Model.{bundle, Tree, kindOf, parentOf};
 ghost use Rattle.arm.specs.Topology.{activesOf, activeJoint};
 ghost use Rattle.calls.specs.Plan.{Fit};
-ghost use Rattle.matrix_visits.specs.Plan.{compositePlace, Room, placeOf};
+ghost use Rattle.matrix_visits.specs.Plan.{compositePlace, rootPlace, Room, placeOf};
 ghost use Rattle.matrix_visits.specs.Walk.{walkOf, endedOf};
-ghost use Rattle.matrix_visits.specs.Kernel.{begunOf, frameVisit, addInto, compositeVisit, columnVisit, columnFound, worldAxis, baseLoad, baseLoadsTo, rootColumns, tested, rootVisit, jointVisit, visitOf};
+ghost use Rattle.matrix_visits.specs.Kernel.{begunOf, frameVisit, addInto, compositeVisit, columnVisit, columnFound, worldAxis, baseLoad, baseLoadsTo, rootColumns, tested, rootVisit, jointVisit, visitOf, intoPlace};
 use crate::composite;
 use crate::plan;
 use crate::walk;
@@ -84,22 +84,30 @@ fn add_into(ws: &mut [f64], at: usize, j: usize)
     composite::put_composite(ws, at, sum);
 }
 
+// The place of the parent's composite, or of the root's.
+fn into_place(n: usize, parent: usize) -> usize
+    requires { ⌜ (n ≤ 32) × (parent ≤ n) ⌝ }
+    ensures { λ r. ⌜ (r ≡ intoPlace n parent) × (r ≤ rootPlace n) ⌝ }
+{
+    if parent == 0 {
+        return n * plan::JOINT;
+    }
+    (parent - 1) * plan::JOINT + plan::COMPOSITE
+}
+
 // Into the parent's composite, or the root's where it floats.
 fn composite_visit(p: Plan, parents: &[u8; 32], ws: &mut [f64], j: usize)
-    requires { ⌜ Tree (p .n) (now parents) × Room p (length (now ws)) × (j < p .n) ⌝ }
+    requires { ⌜ Tree (p .n) (now parents) × Room p (length (now ws)) × (p .lead ≤ 6) × (j < p .n) ⌝ }
     ensures { λ _. ⌜ now (ws .exit) ≡ compositeVisit p (parentOf (now (parents .entry)) j) j (now (ws .entry)) ⌝ }
 {
     let n = p.n;
     let lead = p.lead;
     let parent = model::parent_at(n, parents, j);
-    if parent == 0 {
-        if lead == 0 {
-            return;
-        }
-        add_into(ws, n * plan::JOINT, j);
+    if parent + lead == 0 {
         return;
     }
-    add_into(ws, (parent - 1) * plan::JOINT + plan::COMPOSITE, j);
+    let at = into_place(n, parent);
+    add_into(ws, at, j);
 }
 
 // The walk from a wrench at joint j.
