@@ -39,11 +39,11 @@ use Rattle.forward_visits.specs.Root as roots
 use Rattle.forward_visits.specs.Second as seconds
 use Rattle.forward_visits.specs.Term as terms
 use Rattle.forward_visits.specs.Third as thirds
-use Rattle.matrix_visits.specs.Composite as composite
+use Rattle.matrix_steps.specs.Composite as composite
 use Rattle.matrix_visits.specs.Kernel as columns
 use Rattle.mass_matrix.specs.MassMatrix as matrix
-use Rattle.matrix_visits.specs.Plan as sizes
-use Rattle.matrix_visits.specs.Walk as walk
+use Rattle.matrix_steps.specs.Plan as sizes
+use Rattle.matrix_steps.specs.Walk as walk
 use Rattle.forward_dynamics.specs.Checks as inputs
 use Rattle.forward_dynamics.specs.ForwardDynamics as dynamics
 use Rattle.claims.specs.Cases.{twelve, Hold}

@@ -22,9 +22,9 @@ use Rattle.arm.specs.declared.model.Link.{Link}
 use Rattle.arm.specs.declared.model.Model.{Model}
 use Rattle.calls.specs.declared.position.Outcome.{Outcome}
 use Rattle.calls.specs.declared.position.Outcome.the-variants.{Open, Accepted, Refused}
-use Rattle.matrix_visits.specs.Composite.{compositeAt, putComposite, toParentOf, joinedOf, forceOf}
-use Rattle.matrix_visits.specs.Plan.{framePlace, compositePlace, rootPlace, matrixPlace, placeOf, putSix}
-use Rattle.matrix_visits.specs.Walk.{walkOf}
+use Rattle.matrix_steps.specs.Composite.{compositeAt, putComposite, toParentOf, joinedOf, forceOf}
+use Rattle.matrix_steps.specs.Plan.{framePlace, compositePlace, rootPlace, matrixPlace, placeOf, putSix}
+use Rattle.matrix_steps.specs.Walk.{walkOf}
 use Rattle.calls.specs.declared.plan.Plan.{Plan}
 
 -- what the Rust sets before its loops comes with the first visit: the matrix is +0.0, and a floating root has its own link's numbers

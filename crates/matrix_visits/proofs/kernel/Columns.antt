@@ -11,9 +11,9 @@ use Rattle.arm.specs.Model.{motionOf}
 use Rattle.arm.specs.Topology.{activesOf}
 use Rattle.arm.specs.declared.joint.Motion.{Motion}
 use Rattle.arm.specs.declared.model.Link.{Link}
-use Rattle.matrix_visits.specs.Composite.{compositeAt, forceOf}
-use Rattle.matrix_visits.specs.Plan.{compositePlace, putSix}
-use Rattle.matrix_visits.specs.Walk.{walkOf, endedOf}
+use Rattle.matrix_steps.specs.Composite.{compositeAt, forceOf}
+use Rattle.matrix_steps.specs.Plan.{compositePlace, putSix}
+use Rattle.matrix_steps.specs.Walk.{walkOf, endedOf}
 use Rattle.matrix_visits.specs.Kernel.{baseRows, columnVisit}
 use Rattle.calls.specs.declared.plan.Plan.{Plan}
 
