@@ -69,7 +69,7 @@ pub +walk-spec : {M : Type 1} → statement M
       let b9 = b6 .before .before .before in
       let b11 = b9 .before .before in
       let b13 = b11 .before .before in
-      end-floats (planWith (b13 .args .n) (b13 .args .lead) (b13 .args .side)) (b13 .args .parents .now) (b13 .args .kinds .now) (b13 .args .axes .now) (b13 .args .column) (b13 .args .j) (b13 .args .end .now) (b13 .args .ws .now) (b11 .wrench .ensures) (b9 .put-here .ensures) (b6 .parent-at .ensures .0) (b3 .carried .ensures) (b2 .if2 .taken) (λ z. b5 .if1 .left (omega (arith, z, b2 .if2 .taken))) (c .put-end .ensures))
+      end-floats (planWith (b13 .args .n) (b13 .args .lead) (b13 .args .side)) (b13 .args .parents .now) (b13 .args .kinds .now) (b13 .args .axes .now) (b13 .args .column) (b13 .args .j) (b13 .args .end .now) (b13 .args .ws .now) (b11 .wrench .ensures) (b9 .put-here .ensures) (b6 .parent-at .ensures .0) (b3 .carried .ensures) (omega (arith, b2 .if2 .taken)) (λ z. b5 .if1 .left (omega (arith, z, b2 .if2 .taken))) (c .put-end .ensures))
     -- the parent's walk
     (λ c. search needs)
     (λ c κs.
