@@ -18,7 +18,7 @@ use Rattle.calls.specs.Position.{Work}
 use Rattle.calls.specs.declared.position.Position.{Position}
 use Rattle.matrix_visits.specs.Kernel.{visitOf}
 use Rattle.calls.specs.Plan.{planOf, Fit}
-use Rattle.matrix_steps.specs.Plan.{matrixPlace, Room}
+use Rattle.composites.specs.Plan.{matrixPlace, Room}
 use Rattle.mass_matrix.specs.declared.mass_matrix.Mode.{Mode}
 use Rattle.mass_matrix.specs.declared.mass_matrix.Mode.the-variants.{Fixed, Floating}
 use Rattle.calls.specs.declared.plan.Plan.{Plan}

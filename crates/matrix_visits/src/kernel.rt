@@ -4,21 +4,20 @@ ghost use Prim.Native.Nat.{_+_, _≤_, _<_};
 ghost use lib.ListN.{length, take, drop};
 ghost use Rattle.numbers.specs.Double.{allFinite};
 ghost use Rattle.slots.specs.Slots.{putWrench};
-ghost use Rattle.arm.specs.Model.{bundle, Tree, kindOf, parentOf};
-ghost use Rattle.arm.specs.Topology.{activesOf, activeJoint};
+ghost use Rattle.arm.specs.Model.{bundle, Tree, parentOf};
+ghost use Rattle.arm.specs.Topology.{activesOf};
 ghost use Rattle.calls.specs.Plan.{Fit};
-ghost use Rattle.matrix_steps.specs.Plan.{compositePlace, rootPlace, Room, placeOf};
-ghost use Rattle.matrix_steps.specs.Walk.{walkOf, endedOf};
-ghost use Rattle.matrix_visits.specs.Kernel.{begunOf, frameVisit, addInto, compositeVisit, columnVisit, columnFound, worldAxis, baseLoad, baseLoadsTo, rootColumns, tested, rootVisit, jointVisit, visitOf, intoPlace};
+ghost use Rattle.composites.specs.Plan.{compositePlace, rootPlace, Room, placeOf};
+ghost use Rattle.matrix_visits.specs.Kernel.{begunOf, frameVisit, addInto, compositeVisit, worldAxis, baseLoad, baseLoadsTo, rootColumns, tested, rootVisit, jointVisit, visitOf, intoPlace};
 use arm::joint;
 use arm::model;
 use arm::model::Link;
 use arm::topology;
 use calls::plan::Plan;
 use calls::position::Outcome;
-use matrix_steps::composite;
-use matrix_steps::plan;
-use matrix_steps::walk;
+use composites::composite;
+use composites::plan;
+use matrix_columns::column;
 use numbers::double;
 use numbers::quaternion::Quaternion;
 use numbers::vec3::Vec3;
@@ -108,109 +107,6 @@ fn composite_visit(p: Plan, parents: &[u8; 32], ws: &mut [f64], j: usize)
     }
     let at = into_place(n, parent);
     add_into(ws, at, j);
-}
-
-// The walk from a wrench at joint j.
-fn walked<'a>(
-    p: Plan,
-    parents: &'a [u8; 32],
-    kinds: &'a [u8; 32],
-    axes: &'a [f64; 96],
-    numbers: &'a [u8; 33],
-    ws: &mut [f64],
-    end: &mut [f64; 6],
-    j: usize,
-    column: usize,
-    w: Wrench,
-)
-    requires { ⌜ Fit p (now parents) (now kinds) (now numbers) × Room p (length (now ws)) × (j < p .n) × (column < p .side) ⌝ }
-    ensures { λ _. ⌜ (now (end .exit), now (ws .exit)) ≡ endedOf (p .lead) (now (end .entry)) (walkOf p (now (parents .entry)) (now (kinds .entry)) (now (axes .entry)) column j (w, now (ws .entry))) ⌝ }
-{
-    let n = p.n;
-    let lead = p.lead;
-    let side = p.side;
-    let t = w.torque;
-    let f = w.force;
-    walk::walk(
-        n,
-        lead,
-        side,
-        parents,
-        kinds,
-        axes,
-        numbers,
-        ws,
-        end,
-        j,
-        column,
-        t.x,
-        t.y,
-        t.z,
-        f.x,
-        f.y,
-        f.z,
-    );
-}
-
-// The column of active joint j: the walk, and the base's rows where it floats.
-fn column_visit<'a>(
-    p: Plan,
-    r: Quaternion,
-    parents: &'a [u8; 32],
-    kinds: &'a [u8; 32],
-    axes: &'a [f64; 96],
-    numbers: &'a [u8; 33],
-    ws: &mut [f64],
-    j: usize,
-)
-    requires { ⌜ Fit p (now parents) (now kinds) (now numbers) × Room p (length (now ws)) × (j < p .n) × (kindOf (now kinds) j ≡ 2 → ⊥) ⌝ }
-    ensures { λ _. ⌜ now (ws .exit) ≡ columnVisit p r (now (parents .entry)) (now (kinds .entry)) (now (axes .entry)) j (now (ws .entry)) ⌝ }
-{
-    let lead = p.lead;
-    let column = plan::row_of(p, parents, kinds, numbers, j);
-    let motion = model::motion_at(kinds, axes, j);
-    let c = composite::composite_at(ws, j * plan::JOINT + plan::COMPOSITE);
-    let force = composite::force(motion, c);
-    let mut end = [0.0; 6];
-    walked(
-        p,
-        parents,
-        kinds,
-        axes,
-        numbers,
-        ws,
-        &mut end,
-        j,
-        column,
-        force,
-    );
-    if lead == 0 {
-        return;
-    }
-    let w = Wrench::from_vector(&end);
-    walk::base_rows(p, r, ws, column, w);
-}
-
-// The column of active number k.
-fn active_column<'a>(
-    p: Plan,
-    r: Quaternion,
-    parents: &'a [u8; 32],
-    kinds: &'a [u8; 32],
-    axes: &'a [f64; 96],
-    numbers: &'a [u8; 33],
-    ws: &mut [f64],
-    k: usize,
-)
-    requires { ⌜ Fit p (now parents) (now kinds) (now numbers) × Room p (length (now ws)) × (k ≤ p .n) ⌝ }
-    ensures { λ _. ⌜ now (ws .exit) ≡ columnFound p r (now (parents .entry)) (now (kinds .entry)) (now (axes .entry)) (activeJoint (now (kinds .entry)) (p .n) k) (now (ws .entry)) ⌝ }
-{
-    let n = p.n;
-    let found = topology::active_joint(kinds, numbers, n, k);
-    match found {
-        Place::At(j) => column_visit(p, r, parents, kinds, axes, numbers, ws, j),
-        Place::Nothing => {}
-    }
 }
 
 fn world_axis(k: usize) -> Vec3
@@ -337,7 +233,7 @@ fn joint_visit<'a>(
         composite_visit(p, parents, ws, n + n - 1 - at);
         return;
     }
-    active_column(p, r, parents, kinds, axes, numbers, ws, at - (n + n));
+    column::active_column(p, r, parents, kinds, axes, numbers, ws, at - (n + n));
 }
 
 // Visit `at`.

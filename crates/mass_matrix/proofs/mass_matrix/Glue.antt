@@ -26,7 +26,7 @@ use Rattle.calls.specs.Plan.{planBy}
 use Rattle.mass_matrix.specs.MassMatrix.{restVerdict, inputsVerdict, floats, rotationOf, massMatrix}
 use Rattle.mass_matrix.specs.declared.mass_matrix.Mode.{Mode}
 use Rattle.calls.specs.declared.plan.Plan.{Plan}
-use Rattle.matrix_steps.specs.Plan.{matrixPlace}
+use Rattle.composites.specs.Plan.{matrixPlace}
 
 -- ---- the checks to 22, at each way out
 

@@ -25,7 +25,7 @@ use Rattle.calls.specs.declared.position.Progress.{Progress}
 use Rattle.calls.proofs.Passed.{tame, not-short, as-wanted, counted, still-open}
 use Rattle.matrix_visits.specs.Kernel.{tested, rootVisit, visitOf, begunOf, rootColumns}
 use Rattle.calls.specs.Plan.{planBy, planOf, Fit}
-use Rattle.matrix_steps.specs.Plan.{matrixPlace, Room}
+use Rattle.composites.specs.Plan.{matrixPlace, Room}
 use Rattle.mass_matrix.specs.MassMatrix.{restVerdict, inputsVerdict, Ready, Within}
 use Rattle.calls.specs.declared.plan.Plan.{Plan}
 

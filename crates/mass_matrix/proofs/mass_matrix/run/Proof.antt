@@ -15,7 +15,7 @@ use Rattle.calls.specs.Position.{State}
 use Rattle.calls.specs.declared.position.Position.{Position}
 use Rattle.calls.specs.declared.position.Progress.{Progress}
 use Rattle.calls.specs.declared.plan.Plan.{Plan}
-use Rattle.matrix_steps.specs.Plan.{matrixPlace}
+use Rattle.composites.specs.Plan.{matrixPlace}
 use Rattle.mass_matrix.proofs.mass_matrix.run.Statement.{statement}
 use Rattle.mass_matrix.proofs.mass_matrix.run.Tie as tie
 

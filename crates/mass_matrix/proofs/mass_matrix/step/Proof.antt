@@ -3,7 +3,7 @@ use Rattle.arm.specs.Model.{bundle}
 use borrow.Author.Needs.{needs}
 use Rattle.calls.specs.Position.{opening}
 use Rattle.calls.proofs.Steps.{landed-is}
-use Rattle.matrix_steps.specs.Plan.{matrixPlace}
+use Rattle.composites.specs.Plan.{matrixPlace}
 use Rattle.mass_matrix.proofs.mass_matrix.Ready.{within-after}
 use Rattle.mass_matrix.proofs.mass_matrix.step.Statement.{statement}
 use Rattle.mass_matrix.proofs.mass_matrix.step.Tie as tie
