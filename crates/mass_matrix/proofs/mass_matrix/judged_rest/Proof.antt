@@ -1,6 +1,6 @@
 use native.Mathlib.Omega.{arith}
 use Rattle.mass_matrix.specs.MassMatrix.{restVerdict}
-use Rattle.mass_matrix.proofs.plan.Squares.{small-square}
+use Rattle.composites.proofs.plan.Squares.{small-square}
 use borrow.Author.Needs.{needs}
 use Rattle.mass_matrix.proofs.mass_matrix.judged_rest.Statement.{statement}
 use Rattle.mass_matrix.proofs.mass_matrix.judged_rest.Tie as tie
