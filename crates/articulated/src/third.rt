@@ -1,8 +1,8 @@
 // Third pass: a link's acceleration and its joint's.
 ghost use mathlib.Core.Path.{_≡_};
 ghost use Rattle.articulated.specs.Third.{carriedAcceleration, jointAcceleration, movedBy};
-use arm::joint::Motion;
 use crate::second::Term;
+use arm::joint::Motion;
 use spatial::frame::Frame;
 use spatial::operators;
 use spatial::twist::Twist;

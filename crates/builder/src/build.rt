@@ -3,10 +3,10 @@ ghost use mathlib.Core.Path.{_≡_};
 ghost use Prim.Native.Nat.{ℕ, _*_, _≤_, _<_};
 ghost use lib.ListN.{length, getD};
 ghost use Rattle.builder.specs.Build.{Listed, byteSlots, doubleSlots, axisSlot, axisSlots, modelOf, builtOf};
-use arm::model;
-use arm::model::Model;
 use crate::axis::Axis;
 use crate::checks;
+use arm::model;
+use arm::model::Model;
 use numbers::vec3::Vec3;
 use refusals::Verdict;
 

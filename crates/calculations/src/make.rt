@@ -97,7 +97,22 @@ fn divided<'a>(
     requires { ⌜ (length (now budgets) ≤ 4096) × (length (now counts) ≡ 4096) ⌝ }
     ensures { λ r. ⌜ (madeBy r (now (counts .exit)) (now (ws .exit)) (now (out .exit)) ≡ begunIn (workBy c n (now (parents .entry)) (now (kinds .entry)) (now (origins .entry)) (now (axes .entry)) (now (links .entry)) (inputsBy (now (q .entry)) (now (qd .entry)) (now (forces .entry)) (now (loaded .entry)) (now (loads .entry)))) (now (budgets .entry)) (startOf (workBy c n (now (parents .entry)) (now (kinds .entry)) (now (origins .entry)) (now (axes .entry)) (now (links .entry)) (inputsBy (now (q .entry)) (now (qd .entry)) (now (forces .entry)) (now (loaded .entry)) (now (loads .entry)))) (now (ws .entry)) (now (out .entry)))) × (r .counts ≤ length (now (counts .exit))) × (length (now (counts .exit)) ≡ length (now (counts .entry))) ⌝ }
 {
-    let begun = dynamics::start(c, n, parents, kinds, origins, axes, links, q, qd, forces, loaded, loads, ws, out);
+    let begun = dynamics::start(
+        c,
+        n,
+        parents,
+        kinds,
+        origins,
+        axes,
+        links,
+        q,
+        qd,
+        forces,
+        loaded,
+        loads,
+        ws,
+        out,
+    );
     let position = begun.position;
     if position.closed {
         return Last {
@@ -149,11 +164,43 @@ fn once<'a>(
     ensures { λ r. ⌜ (madeBy r (now (counts .exit)) (now (ws .exit)) (now (out .exit)) ≡ onceOf (workBy c n (now (parents .entry)) (now (kinds .entry)) (now (origins .entry)) (now (axes .entry)) (now (links .entry)) (inputsBy (now (q .entry)) (now (qd .entry)) (now (forces .entry)) (now (loaded .entry)) (now (loads .entry)))) (now (budgets .entry)) (now (ws .entry)) (now (out .entry))) × (r .counts ≤ length (now (counts .exit))) × (length (now (counts .exit)) ≡ length (now (counts .entry))) ⌝ }
 {
     if budgets.len() == 0 {
-        let answer = dynamics::whole(c, n, parents, kinds, origins, axes, links, q, qd, forces, loaded, loads, ws, out);
+        let answer = dynamics::whole(
+            c,
+            n,
+            parents,
+            kinds,
+            origins,
+            axes,
+            links,
+            q,
+            qd,
+            forces,
+            loaded,
+            loads,
+            ws,
+            out,
+        );
         counts[0] = answer.visits as u64;
         return Last { counts: 1, answer };
     }
-    divided(c, n, parents, kinds, origins, axes, links, q, qd, forces, loaded, loads, budgets, counts, ws, out)
+    divided(
+        c,
+        n,
+        parents,
+        kinds,
+        origins,
+        axes,
+        links,
+        q,
+        qd,
+        forces,
+        loaded,
+        loads,
+        budgets,
+        counts,
+        ws,
+        out,
+    )
 }
 
 fn times<'a>(
@@ -178,10 +225,44 @@ fn times<'a>(
     requires { ⌜ (length (now budgets) ≤ 4096) × (length (now counts) ≡ 4096) ⌝ }
     ensures { λ r. ⌜ (madeBy r (now (counts .exit)) (now (ws .exit)) (now (out .exit)) ≡ timesOf (workBy c n (now (parents .entry)) (now (kinds .entry)) (now (origins .entry)) (now (axes .entry)) (now (links .entry)) (inputsBy (now (q .entry)) (now (qd .entry)) (now (forces .entry)) (now (loaded .entry)) (now (loads .entry)))) (now (budgets .entry)) count (now (ws .entry)) (now (out .entry))) × (r .counts ≤ length (now (counts .exit))) × (length (now (counts .exit)) ≡ length (now (counts .entry))) ⌝ }
 {
-    let mut last = once(c, n, parents, kinds, origins, axes, links, q, qd, forces, loaded, loads, budgets, counts, ws, out);
+    let mut last = once(
+        c,
+        n,
+        parents,
+        kinds,
+        origins,
+        axes,
+        links,
+        q,
+        qd,
+        forces,
+        loaded,
+        loads,
+        budgets,
+        counts,
+        ws,
+        out,
+    );
     let mut left = count;
     while 1 < left {
-        last = once(c, n, parents, kinds, origins, axes, links, q, qd, forces, loaded, loads, budgets, counts, ws, out);
+        last = once(
+            c,
+            n,
+            parents,
+            kinds,
+            origins,
+            axes,
+            links,
+            q,
+            qd,
+            forces,
+            loaded,
+            loads,
+            budgets,
+            counts,
+            ws,
+            out,
+        );
         left -= 1;
     }
     last

@@ -41,12 +41,12 @@ use Rattle.forward_slots.specs.Eliminate as eliminations
 use Rattle.forward_passes.specs.Second as seconds
 use Rattle.forward_slots.specs.Term as terms
 use Rattle.forward_passes.specs.Third as thirds
-use Rattle.matrix_visits.specs.Composite as composite
+use Rattle.composites.specs.Composite as composite
 use Rattle.matrix_visits.specs.Kernel as columns
 use Rattle.mass_matrix.specs.Checks as limits
 use Rattle.mass_matrix.specs.MassMatrix as matrix
-use Rattle.matrix_visits.specs.Plan as sizes
-use Rattle.matrix_visits.specs.Walk as walk
+use Rattle.composites.specs.Plan as sizes
+use Rattle.matrix_columns.specs.Walk as walk
 use Rattle.forward_dynamics.specs.Checks as inputs
 use Rattle.forward_dynamics.specs.ForwardDynamics as dynamics
 use Rattle.claims.specs.Cases.{twelve, Hold}
@@ -70,7 +70,7 @@ unfolding checks.badValue checks.valuesVerdict checks.farTurn checks.turnsVerdic
 open-calls = Unit {0}
 
 open-matrix : Type 0
-unfolding composite.compositeAt composite.putComposite composite.shiftedOf composite.toParentOf composite.joinedOf composite.forceOf columns.begunOf columns.frameVisit columns.addInto columns.compositeVisit columns.baseRows columns.columnVisit columns.columnFound columns.rootColumns columns.tested columns.rootVisit columns.jointVisit columns.visitOf limits.restVerdict limits.inputsVerdict matrix.massMatrix plan.planBy sizes.putPair walk.entryOf walk.putEntry walk.walkStep walk.climb walk.walkOf
+unfolding composite.compositeAt composite.putComposite composite.shiftedOf composite.toParentOf composite.joinedOf composite.forceOf columns.begunOf columns.frameVisit columns.addInto columns.compositeVisit walk.baseRows walk.columnVisit walk.columnFound columns.rootColumns columns.tested columns.rootVisit columns.jointVisit columns.visitOf limits.restVerdict limits.inputsVerdict matrix.massMatrix plan.planBy sizes.putPair walk.entryOf walk.putEntry walk.walkStep walk.climb walk.walkOf
 open-matrix = Unit {0}
 
 open-articulated : Type 0

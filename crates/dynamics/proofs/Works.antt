@@ -20,7 +20,7 @@ use Rattle.calls.specs.declared.position.Answer.{Answer}
 use Rattle.calls.specs.declared.position.Position.{Position}
 use Rattle.calls.specs.declared.position.Progress.{Progress}
 use Rattle.calls.proofs.Fits.{within-fresh}
-use Rattle.matrix_visits.specs.Plan.{matrixPlace}
+use Rattle.composites.specs.Plan.{matrixPlace}
 use Rattle.mass_matrix.specs.MassMatrix as matrix
 use Rattle.mass_matrix.specs.MassMatrix.{massMatrix}
 use Rattle.mass_matrix.specs.declared.mass_matrix.Mode.{Mode}

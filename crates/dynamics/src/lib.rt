@@ -10,13 +10,13 @@ ghost use Rattle.calls.specs.Plan.{planBy, Within};
 ghost use Rattle.calls.specs.Position.{positionVerdict, ran, startOf, portionOf, wholeOf};
 ghost use Rattle.forward_dynamics.specs.Inputs.{inputsBy};
 ghost use Rattle.dynamics.specs.Calculation.{workBy, isMatrix, floats, verdictOf};
+use crate::calculation::Calculation;
 use arm::topology;
 use articulated::root;
 use calls::plan;
 use calls::position;
 use calls::position::Answer;
 use calls::position::Position;
-use crate::calculation::Calculation;
 use forward_dynamics::checks as forward_checks;
 use forward_dynamics::run as forward;
 use mass_matrix::checks as matrix_checks;
@@ -88,7 +88,20 @@ fn judged_at<'a>(
     requires { ⌜ now numbers ≡ activeNumbers (now kinds) ⌝ }
     ensures { λ v. ⌜ v ≡ orElse (verdictOf c n (now (parents .entry)) (now (kinds .entry)) (inputsBy (now (q .entry)) (now (qd .entry)) (now (forces .entry)) (now (loaded .entry)) (now (loads .entry))) ws out) (positionVerdict (isMatrix c) (floats c) n (activesOf (now (kinds .entry)) n) position) ⌝ }
 {
-    let v = judged(c, n, parents, kinds, numbers, q, qd, forces, loaded, loads, ws, out);
+    let v = judged(
+        c,
+        n,
+        parents,
+        kinds,
+        numbers,
+        q,
+        qd,
+        forces,
+        loaded,
+        loads,
+        ws,
+        out,
+    );
     let Verdict::Fine = v else {
         return v;
     };

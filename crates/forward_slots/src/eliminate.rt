@@ -5,13 +5,13 @@ ghost use lib.ListN.{length};
 ghost use Rattle.arm.specs.Joint.{kindNumber};
 ghost use Rattle.forward_slots.specs.Layout.{framePlace, Room};
 ghost use Rattle.forward_slots.specs.Eliminate.{newTerm, keptTerm, eliminated};
+use crate::layout;
+use crate::term;
+use crate::whole;
 use arm::joint::Motion;
 use articulated::second;
 use articulated::second::Term;
 use calls::plan::Plan;
-use crate::layout;
-use crate::term;
-use crate::whole;
 use refusals::Verdict;
 
 // Active joint j's terms, with the force at a place. U comes from the whole inertia, what the joint's own motion takes up included.

@@ -4,11 +4,11 @@ ghost use Prim.Native.Nat.{_+_, _≤_, _<_};
 ghost use lib.ListN.{length};
 ghost use Rattle.forward_slots.specs.Layout.{framePlace};
 ghost use Rattle.forward_slots.specs.Reduced.{reducedAt, addReduced};
-use articulated::second;
 use crate::body;
 use crate::layout;
 use crate::term;
 use crate::whole;
+use articulated::second;
 use inertia;
 
 pub fn inertia_at(ws: &[f64], j: usize) -> [f64; 36]

@@ -5,9 +5,9 @@ ghost use lib.ListN.{length};
 ghost use Rattle.slots.specs.Slots.{mat6At};
 ghost use Rattle.forward_slots.specs.Layout.{framePlace, inertiaPlace};
 ghost use Rattle.forward_slots.specs.Whole.{addWhole};
-use articulated::second;
 use crate::body;
 use crate::layout;
+use articulated::second;
 
 pub fn inertia_at(ws: &[f64], j: usize) -> [f64; 36]
     requires { ⌜ (j < 32) × (framePlace (j + 1) ≤ length (now ws)) ⌝ }

@@ -15,7 +15,7 @@ use Rattle.calls.specs.Plan.{planBy, planOf}
 use Rattle.calls.specs.declared.plan.Plan.{Plan}
 use Rattle.calls.proofs.Fits.{fits, side-most}
 use Rattle.calls.proofs.Passed.{tame, not-short, as-wanted, counted}
-use Rattle.matrix_visits.specs.Plan.{matrixPlace, Room}
+use Rattle.composites.specs.Plan.{matrixPlace, Room}
 use Rattle.mass_matrix.specs.Checks.{restVerdict, inputsVerdict}
 use Rattle.mass_matrix.specs.MassMatrix.{Ready}
 

@@ -21,7 +21,7 @@ use Rattle.calls.specs.declared.position.Position.{Position}
 use Rattle.calls.specs.declared.position.Progress.{Progress}
 use Rattle.calls.proofs.Steps.{still-within}
 use Rattle.matrix_visits.specs.Kernel.{tested, rootVisit, visitOf}
-use Rattle.matrix_visits.specs.Plan.{matrixPlace}
+use Rattle.composites.specs.Plan.{matrixPlace}
 use Rattle.matrix_visits.proofs.Kept.{length-visit}
 use Rattle.mass_matrix.specs.MassMatrix.{floats, rotationOf, massMatrix}
 use Rattle.mass_matrix.specs.declared.mass_matrix.Mode.{Mode}

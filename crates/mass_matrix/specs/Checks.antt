@@ -10,7 +10,7 @@ use Rattle.refusals.specs.declared.Verdict.{Verdict}
 use Rattle.arm.specs.Model.{wildOf}
 use Rattle.calls.specs.Checks.{valuesVerdict, turnsVerdict, badRotation}
 use Rattle.calls.specs.Plan.{planOf}
-use Rattle.matrix_visits.specs.Plan.{matrixPlace}
+use Rattle.composites.specs.Plan.{matrixPlace}
 
 -- 13, 17, and 22 with a floating root
 unfoldable pub restVerdict : ℕ → ℕ → Bool → Quaternion → List ℕ → List Float → ℕ → Verdict

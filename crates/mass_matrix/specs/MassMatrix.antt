@@ -15,7 +15,7 @@ use Rattle.calls.specs.Position.{Work}
 use Rattle.calls.specs.declared.plan.Plan.{Plan}
 use Rattle.calls.specs.declared.position.Outcome.{Outcome}
 use Rattle.matrix_visits.specs.Kernel.{visitOf}
-use Rattle.matrix_visits.specs.Plan.{matrixPlace, Room}
+use Rattle.composites.specs.Plan.{matrixPlace, Room}
 use Rattle.mass_matrix.specs.Checks.{inputsVerdict}
 use Rattle.mass_matrix.specs.declared.mass_matrix.Mode.{Mode}
 use Rattle.mass_matrix.specs.declared.mass_matrix.Mode.the-variants.{Fixed, Floating}

@@ -8,7 +8,7 @@ use arm::model;
 use arm::topology;
 use calls::checks;
 use calls::plan;
-use matrix_visits::plan as places;
+use composites::plan as places;
 use numbers::double;
 use numbers::quaternion::Quaternion;
 use refusals;

@@ -4,15 +4,15 @@ ghost use mathlib.Core.Path.{_≡_};
 ghost use lib.ListN.{length};
 ghost use Rattle.calls.specs.Plan.{Within};
 ghost use Rattle.calls.specs.Position.{landed, stepBy, iterate, opening};
-ghost use Rattle.matrix_visits.specs.Plan.{matrixPlace};
+ghost use Rattle.composites.specs.Plan.{matrixPlace};
 ghost use Rattle.mass_matrix.specs.MassMatrix.{visitsBy, Ready};
 use calls::plan::Plan;
 use calls::position;
 use calls::position::Outcome;
 use calls::position::Position;
 use calls::position::Progress;
+use composites::plan as places;
 use matrix_visits::kernel;
-use matrix_visits::plan as places;
 use numbers::quaternion::Quaternion;
 
 // One visit of an open position.

@@ -18,10 +18,10 @@ use Rattle.arm.specs.declared.model.Link.{Link}
 use Rattle.arm.specs.declared.model.Model.{Model}
 use Rattle.calls.specs.declared.position.Outcome.{Outcome}
 use Rattle.calls.proofs.Kept.{either-way}
-use Rattle.matrix_visits.specs.Composite.{putComposite}
-use Rattle.matrix_visits.specs.Kernel.{begunOf, frameVisit, addInto, compositeVisit, baseRows, columnVisit, columnFound, baseLoadsTo, rootColumns, rootVisit, jointVisit, visitOf}
-use Rattle.matrix_visits.specs.Plan.{compositePlace, rootPlace, putPair, putSix}
-use Rattle.matrix_visits.specs.Walk.{putEntry, walkStep, climb, walkOf}
+use Rattle.composites.specs.Composite.{putComposite}
+use Rattle.matrix_visits.specs.Kernel.{begunOf, frameVisit, addInto, compositeVisit, baseLoadsTo, rootColumns, rootVisit, jointVisit, visitOf}
+use Rattle.composites.specs.Plan.{compositePlace, rootPlace, putPair, putSix}
+use Rattle.matrix_columns.specs.Walk.{putEntry, walkStep, climb, walkOf, baseRows, columnVisit, columnFound}
 use Rattle.calls.specs.declared.plan.Plan.{Plan}
 
 length-putComposite : (s : List Float) (at : ℕ) (c : Link) → length (putComposite s at c) ≡ length s

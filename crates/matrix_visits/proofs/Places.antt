@@ -26,10 +26,10 @@ use Rattle.arm.specs.declared.model.Link.{Link}
 use Rattle.arm.specs.declared.model.Model.{Model}
 use Rattle.calls.specs.declared.plan.Plan.{Plan}
 use Rattle.calls.specs.declared.position.Outcome.{Outcome}
-use Rattle.matrix_visits.specs.Composite.{compositeAt, putComposite, forceOf}
-use Rattle.matrix_visits.specs.Plan.{compositePlace, rootPlace, matrixPlace, putPair, putSix}
-use Rattle.matrix_visits.specs.Walk.{entryOf, putEntry, walkStep, climb, walkOf}
-use Rattle.matrix_visits.specs.Kernel.{begunOf, frameVisit, addInto, compositeVisit, baseRows, columnVisit, columnFound, baseLoadsTo, rootColumns, rootVisit, jointVisit, visitOf}
+use Rattle.composites.specs.Composite.{compositeAt, putComposite, forceOf}
+use Rattle.composites.specs.Plan.{compositePlace, rootPlace, matrixPlace, putPair, putSix}
+use Rattle.matrix_columns.specs.Walk.{entryOf, putEntry, walkStep, climb, walkOf, baseRows, columnVisit, columnFound}
+use Rattle.matrix_visits.specs.Kernel.{begunOf, frameVisit, addInto, compositeVisit, baseLoadsTo, rootColumns, rootVisit, jointVisit, visitOf}
 use Rattle.matrix_visits.specs.Places.{rootPart, begunParts, frameParts, compositeParts, pairParts, entryParts, pathParts, rowsTo, columnParts, columnsTo, baseParts, jointParts, setBy}
 
 pub putComposite-outside : (s : List Float) (at : ℕ) (c : Link) → Outside at 13 s (putComposite s at c)

@@ -9,22 +9,21 @@ use Rattle.numbers.specs.Double.{0·0, 1·0, allFinite}
 use Rattle.numbers.specs.Quaternion.{inverseOf, rotateOf}
 use Rattle.numbers.specs.declared.vec3.Vec3.{Vec3}
 use Rattle.numbers.specs.declared.quaternion.Quaternion.{Quaternion}
-use Rattle.refusals.specs.declared.Place.{Place}
-use Rattle.refusals.specs.declared.Place.the-variants.{At, Nothing}
+use Rattle.refusals.specs.declared.Place.the-variants.{Nothing}
 use Rattle.spatial.specs.Wrench.{rotatedOf}
 use Rattle.spatial.specs.declared.wrench.Wrench.{Wrench}
 use Rattle.slots.specs.Slots.{frameAt, putFrame, putWrench, zeroTo}
 use Rattle.arm.specs.Joint.{frameOf}
-use Rattle.arm.specs.Model.{parentOf, motionOf, jointOf, linkOf}
-use Rattle.arm.specs.Topology.{activesOf, valueOf, activeJoint}
+use Rattle.arm.specs.Model.{parentOf, jointOf, linkOf}
+use Rattle.arm.specs.Topology.{valueOf}
 use Rattle.arm.specs.declared.joint.Motion.the-variants.{Turn, Slide}
 use Rattle.arm.specs.declared.model.Link.{Link}
 use Rattle.arm.specs.declared.model.Model.{Model}
 use Rattle.calls.specs.declared.position.Outcome.{Outcome}
 use Rattle.calls.specs.declared.position.Outcome.the-variants.{Open, Accepted, Refused}
-use Rattle.matrix_visits.specs.Composite.{compositeAt, putComposite, toParentOf, joinedOf, forceOf}
-use Rattle.matrix_visits.specs.Plan.{framePlace, compositePlace, rootPlace, matrixPlace, placeOf, putSix}
-use Rattle.matrix_visits.specs.Walk.{walkOf}
+use Rattle.composites.specs.Composite.{compositeAt, putComposite, toParentOf, joinedOf, forceOf}
+use Rattle.composites.specs.Plan.{framePlace, compositePlace, rootPlace, matrixPlace, placeOf}
+use Rattle.matrix_columns.specs.Walk.{activeColumn}
 use Rattle.calls.specs.declared.plan.Plan.{Plan}
 
 -- what the Rust sets before its loops comes with the first visit: the matrix is +0.0, and a floating root has its own link's numbers
@@ -50,25 +49,6 @@ unfoldable pub compositeVisit : Plan → ℕ → ℕ → List Float → List Flo
 compositeVisit p parent j ws =
     cond (eqb parent 0) (cond (eqb (p .lead) 0) ws (addInto (rootPlace (p .n)) j ws))
     (addInto (compositePlace (parent - 1)) j ws)
-
--- ---- active columns rising
-
--- the base's rows of a column, from the wrench at the root
-unfoldable pub baseRows : Plan → Quaternion → ℕ → Wrench × List Float → List Float
-baseRows p r column s = cond (eqb (p .lead) 0) (s .1) (putSix p column (rotatedOf (s .0) r) (s .1))
-
-unfoldable pub columnVisit : Plan → Quaternion → List ℕ → List ℕ → List Float → ℕ → List Float → List Float
-columnVisit p r parents kinds axes j ws =
-    let column = p .lead + activesOf kinds j in
-    baseRows p r column (walkOf p parents kinds axes column j (forceOf (motionOf kinds axes j) (compositeAt ws (compositePlace j)), ws))
-
-unfoldable pub columnFound : Plan → Quaternion → List ℕ → List ℕ → List Float → Place → List Float → List Float
-columnFound p r parents kinds axes (At j) ws = columnVisit p r parents kinds axes j ws
-columnFound p r parents kinds axes Nothing ws = ws
-
--- of active number k
-abbrev pub activeColumn : Plan → Quaternion → Model → ℕ → List Float → List Float
-activeColumn p r m k ws = columnFound p r (m .parents) (m .kinds) (m .axes) (activeJoint (m .kinds) (p .n) k) ws
 
 -- ---- the root: a floating base's six columns, then every entry is tested
 
@@ -113,3 +93,9 @@ unfoldable pub visitOf : Plan → Quaternion → Model → List Float → ℕ �
 visitOf p r m q at ws =
     let begun = begunOf p (m .links) at ws in
     cond (ltb at (p .n + p .n + (p .side - p .lead))) (Open, jointVisit p r m q at begun) (rootVisit p r begun)
+
+-- ---- what the steps of the code promise each other
+
+-- the composite that a joint's is added to
+unfoldable pub intoPlace : ℕ → ℕ → ℕ
+intoPlace n parent = cond (eqb parent 0) (rootPlace n) (compositePlace (parent - 1))

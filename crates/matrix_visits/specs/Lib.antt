@@ -1,5 +1,2 @@
-pub mod Plan
-pub mod Composite
-pub mod Walk
 pub mod Kernel
 pub mod Places

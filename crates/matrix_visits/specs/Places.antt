@@ -9,8 +9,8 @@ use Rattle.slots.specs.Parts.{Part, part}
 use Rattle.arm.specs.Joint.{isFixed}
 use Rattle.arm.specs.Model.{parentOf, kindOf}
 use Rattle.arm.specs.Topology.{activesOf, activeJoint}
-use Rattle.matrix_visits.specs.Plan.{framePlace, compositePlace, rootPlace, matrixPlace, placeOf}
-use Rattle.matrix_visits.specs.Walk.{climb}
+use Rattle.composites.specs.Plan.{framePlace, compositePlace, rootPlace, matrixPlace, placeOf}
+use Rattle.matrix_columns.specs.Walk.{climb}
 use Rattle.calls.specs.declared.plan.Plan.{Plan}
 
 -- a floating root's composite

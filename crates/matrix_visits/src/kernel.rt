@@ -4,20 +4,20 @@ ghost use Prim.Native.Nat.{_+_, _≤_, _<_};
 ghost use lib.ListN.{length, take, drop};
 ghost use Rattle.numbers.specs.Double.{allFinite};
 ghost use Rattle.slots.specs.Slots.{putWrench};
-ghost use Rattle.arm.specs.Model.{bundle, Tree, kindOf, parentOf};
-ghost use Rattle.arm.specs.Topology.{activesOf, activeJoint};
+ghost use Rattle.arm.specs.Model.{bundle, Tree, parentOf};
+ghost use Rattle.arm.specs.Topology.{activesOf};
 ghost use Rattle.calls.specs.Plan.{Fit};
-ghost use Rattle.matrix_visits.specs.Plan.{compositePlace, Room, placeOf};
-ghost use Rattle.matrix_visits.specs.Kernel.{begunOf, frameVisit, addInto, compositeVisit, columnVisit, columnFound, worldAxis, baseLoad, baseLoadsTo, rootColumns, tested, rootVisit, jointVisit, visitOf};
+ghost use Rattle.composites.specs.Plan.{compositePlace, rootPlace, Room, placeOf};
+ghost use Rattle.matrix_visits.specs.Kernel.{begunOf, frameVisit, addInto, compositeVisit, worldAxis, baseLoad, baseLoadsTo, rootColumns, tested, rootVisit, jointVisit, visitOf, intoPlace};
 use arm::joint;
 use arm::model;
 use arm::model::Link;
 use arm::topology;
 use calls::plan::Plan;
 use calls::position::Outcome;
-use crate::composite;
-use crate::plan;
-use crate::walk;
+use composites::composite;
+use composites::plan;
+use matrix_columns::column;
 use numbers::double;
 use numbers::quaternion::Quaternion;
 use numbers::vec3::Vec3;
@@ -83,83 +83,30 @@ fn add_into(ws: &mut [f64], at: usize, j: usize)
     composite::put_composite(ws, at, sum);
 }
 
+// The place of the parent's composite, or of the root's.
+fn into_place(n: usize, parent: usize) -> usize
+    requires { ⌜ (n ≤ 32) × (parent ≤ n) ⌝ }
+    ensures { λ r. ⌜ (r ≡ intoPlace n parent) × (r ≤ rootPlace n) ⌝ }
+{
+    if parent == 0 {
+        return n * plan::JOINT;
+    }
+    (parent - 1) * plan::JOINT + plan::COMPOSITE
+}
+
 // Into the parent's composite, or the root's where it floats.
 fn composite_visit(p: Plan, parents: &[u8; 32], ws: &mut [f64], j: usize)
-    requires { ⌜ Tree (p .n) (now parents) × Room p (length (now ws)) × (j < p .n) ⌝ }
+    requires { ⌜ Tree (p .n) (now parents) × Room p (length (now ws)) × (p .lead ≤ 6) × (j < p .n) ⌝ }
     ensures { λ _. ⌜ now (ws .exit) ≡ compositeVisit p (parentOf (now (parents .entry)) j) j (now (ws .entry)) ⌝ }
 {
     let n = p.n;
     let lead = p.lead;
     let parent = model::parent_at(n, parents, j);
-    if parent == 0 {
-        if lead == 0 {
-            return;
-        }
-        add_into(ws, n * plan::JOINT, j);
+    if parent + lead == 0 {
         return;
     }
-    add_into(ws, (parent - 1) * plan::JOINT + plan::COMPOSITE, j);
-}
-
-// The column of active joint j: the walk, and the base's rows where it floats.
-fn column_visit<'a>(
-    p: Plan,
-    r: Quaternion,
-    parents: &'a [u8; 32],
-    kinds: &'a [u8; 32],
-    axes: &'a [f64; 96],
-    numbers: &'a [u8; 33],
-    ws: &mut [f64],
-    j: usize,
-)
-    requires { ⌜ Fit p (now parents) (now kinds) (now numbers) × Room p (length (now ws)) × (j < p .n) × (kindOf (now kinds) j ≡ 2 → ⊥) ⌝ }
-    ensures { λ _. ⌜ now (ws .exit) ≡ columnVisit p r (now (parents .entry)) (now (kinds .entry)) (now (axes .entry)) j (now (ws .entry)) ⌝ }
-{
-    let column = plan::row_of(p, parents, kinds, numbers, j);
-    let motion = model::motion_at(kinds, axes, j);
-    let c = composite::composite_at(ws, j * plan::JOINT + plan::COMPOSITE);
-    let force = composite::force(motion, c);
-    let t = force.torque;
-    let f = force.force;
-    walk::walk(
-        p,
-        r,
-        parents,
-        kinds,
-        axes,
-        numbers,
-        ws,
-        j,
-        column,
-        t.x,
-        t.y,
-        t.z,
-        f.x,
-        f.y,
-        f.z,
-    );
-}
-
-// The column of active number k.
-fn active_column<'a>(
-    p: Plan,
-    r: Quaternion,
-    parents: &'a [u8; 32],
-    kinds: &'a [u8; 32],
-    axes: &'a [f64; 96],
-    numbers: &'a [u8; 33],
-    ws: &mut [f64],
-    k: usize,
-)
-    requires { ⌜ Fit p (now parents) (now kinds) (now numbers) × Room p (length (now ws)) × (k ≤ p .n) ⌝ }
-    ensures { λ _. ⌜ now (ws .exit) ≡ columnFound p r (now (parents .entry)) (now (kinds .entry)) (now (axes .entry)) (activeJoint (now (kinds .entry)) (p .n) k) (now (ws .entry)) ⌝ }
-{
-    let n = p.n;
-    let found = topology::active_joint(kinds, numbers, n, k);
-    match found {
-        Place::At(j) => column_visit(p, r, parents, kinds, axes, numbers, ws, j),
-        Place::Nothing => {}
-    }
+    let at = into_place(n, parent);
+    add_into(ws, at, j);
 }
 
 fn world_axis(k: usize) -> Vec3
@@ -286,7 +233,7 @@ fn joint_visit<'a>(
         composite_visit(p, parents, ws, n + n - 1 - at);
         return;
     }
-    active_column(p, r, parents, kinds, axes, numbers, ws, at - (n + n));
+    column::active_column(p, r, parents, kinds, axes, numbers, ws, at - (n + n));
 }
 
 // Visit `at`.

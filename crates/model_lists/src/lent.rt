@@ -5,8 +5,8 @@ ghost use Prim.Native.Nat.{_≤_};
 ghost use lib.ListN.{length, take};
 ghost use Rattle.model_lists.specs.Read.{numbersBy, SizesIn};
 ghost use Rattle.model_lists.specs.Lent.{allBytes, fullBy, LentBy};
-use arm::model::Model;
 use crate::read::Sizes;
+use arm::model::Model;
 use numbers::double::both;
 
 // 32 numbers as bytes, if they are below 256.

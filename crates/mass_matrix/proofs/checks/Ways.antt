@@ -16,7 +16,7 @@ use Rattle.arm.specs.Topology.{activesOf}
 use Rattle.calls.specs.Checks.{valuesVerdict}
 use Rattle.calls.specs.Plan.{planBy}
 use Rattle.calls.specs.declared.plan.Plan.{Plan}
-use Rattle.matrix_visits.specs.Plan.{matrixPlace}
+use Rattle.composites.specs.Plan.{matrixPlace}
 use Rattle.mass_matrix.specs.Checks.{restVerdict, inputsVerdict}
 
 module _ (floating : Bool) (r : Quaternion) (n : ℕ) (parents kinds : List ℕ) (q : List Float) (ws out : ℕ) (wild : Bool) (e9 : wild ≡ wildOf n parents kinds) where

@@ -8,7 +8,7 @@ use borrow.Author.Tests.{ltb-false, leb-false, eqb-true}
 use lib.Dec.{eqb, leb, ltb}
 use Rattle.refusals.proofs.Flags.{neither, not-not}
 use Rattle.mass_matrix.specs.Column.{badColumn}
-use Rattle.matrix_visits.proofs.plan.Squares.{small-square}
+use Rattle.composites.proofs.plan.Squares.{small-square}
 
 pub record Inside (side column count : ℕ) : Type 0 where
   pub within : column * side + side ≤ count

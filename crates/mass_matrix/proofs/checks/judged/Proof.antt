@@ -1,7 +1,7 @@
 use mathlib.Core.Path.{sym, _∙_}
 use native.Mathlib.Omega.{arith}
 use Rattle.arm.proofs.topology.Counts.{actives-le}
-use Rattle.matrix_visits.proofs.plan.Squares.{small-square}
+use Rattle.composites.proofs.plan.Squares.{small-square}
 use borrow.Author.Needs.{needs}
 use Rattle.calls.proofs.Passed.{counted}
 use Rattle.mass_matrix.proofs.checks.Ways.{refuses-9, refuses-10, refuses-values, goes-on}

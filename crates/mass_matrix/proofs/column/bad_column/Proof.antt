@@ -1,7 +1,7 @@
 use native.Mathlib.Omega.{arith}
 use borrow.Author.Tests.{eq-eqb, ne-eqb, lt-ltb, le-ltb}
 use Rattle.mass_matrix.specs.Column.{badColumn}
-use Rattle.matrix_visits.proofs.plan.Squares.{small-square}
+use Rattle.composites.proofs.plan.Squares.{small-square}
 use Rattle.mass_matrix.proofs.column.bad_column.Statement.{statement}
 use Rattle.mass_matrix.proofs.column.bad_column.Tie as tie
 

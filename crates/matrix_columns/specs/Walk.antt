@@ -1,0 +1,87 @@
+-- A column of the mass matrix, by its walk: "going from a joint to its parent until the root is reached". Definitions only.
+use mathlib.Core.Bool.{cond}
+use mathlib.Core.List.{List}
+use Prim.Native.Nat.{ℕ, zero, suc, _+_, _-_}
+use lib.Dec.{eqb}
+use lib.Ieee.{Float}
+use Rattle.numbers.specs.Double.{0·0}
+use Rattle.numbers.specs.Vec3.{dotOf}
+use Rattle.numbers.specs.declared.quaternion.Quaternion.{Quaternion}
+use Rattle.refusals.specs.declared.Place.{Place}
+use Rattle.refusals.specs.declared.Place.the-variants.{At, Nothing}
+use Rattle.spatial.specs.Operators.{wrenchToParent}
+use Rattle.spatial.specs.Wrench.{rotatedOf, vectorOf}
+use Rattle.spatial.specs.declared.wrench.Wrench.{Wrench}
+use Rattle.slots.specs.Slots.{frameAt}
+use Rattle.arm.specs.Model.{parentOf, motionOf}
+use Rattle.arm.specs.Topology.{activesOf, activeJoint}
+use Rattle.arm.specs.declared.joint.Motion.{Motion}
+use Rattle.arm.specs.declared.joint.Motion.the-variants.{Turn, Slide, Fixed}
+use Rattle.arm.specs.declared.model.Model.{Model}
+use Rattle.composites.specs.Composite.{compositeAt, forceOf}
+use Rattle.composites.specs.Plan.{framePlace, compositePlace, putPair, putSix}
+use Rattle.calls.specs.declared.plan.Plan.{Plan}
+
+-- S·F, what a wrench gives along a motion
+unfoldable pub entryOf : Motion → Wrench → Float
+entryOf (Turn axis) w = dotOf axis (w .torque)
+entryOf (Slide axis) w = dotOf axis (w .force)
+entryOf Fixed w = 0·0
+
+-- a joint's entry in a column and its mirror; nothing for a fixed joint
+unfoldable pub putEntry : Plan → Motion → ℕ → ℕ → Float → List Float → List Float
+putEntry p (Turn axis) row column entry ws = putPair p row column entry ws
+putEntry p (Slide axis) row column entry ws = putPair p row column entry ws
+putEntry p Fixed row column entry ws = ws
+
+-- joint j's, from the wrench that has come to it
+abbrev pub putHere : Plan → List ℕ → List Float → ℕ → ℕ → Wrench → List Float → List Float
+putHere p kinds axes column j w ws =
+    putEntry p (motionOf kinds axes j) (p .lead + activesOf kinds j) column (entryOf (motionOf kinds axes j) w) ws
+
+-- one joint of the walk: its entry is written, and the wrench is carried to its parent
+unfoldable pub walkStep : Plan → List ℕ → List Float → ℕ → ℕ → Wrench × List Float → Wrench × List Float
+walkStep p kinds axes column j s =
+    let ws = putHere p kinds axes column j (s .0) (s .1) in
+    (wrenchToParent (frameAt ws (framePlace j)) (s .0), ws)
+
+-- `act` at j, then at the joint of the link `up j`, until that is the root; at most k joints
+unfoldable pub climb : {S : Type 0} → (ℕ → ℕ) → (ℕ → S → S) → ℕ → ℕ → S → S
+climb up act zero j s = s
+climb up act (suc k) j s = cond (eqb (up j) 0) (act j s) (climb up act k (up j - 1) (act j s))
+
+-- from joint j to the root; j + 1 joints are enough, since a parent link is at most j
+unfoldable pub walkOf : Plan → List ℕ → List ℕ → List Float → ℕ → ℕ → Wrench × List Float → Wrench × List Float
+walkOf p parents kinds axes column j s = climb (parentOf parents) (walkStep p kinds axes column) (suc j) j s
+
+-- ---- the column of an active joint
+
+-- the base's rows of a column, from the wrench at the root
+unfoldable pub baseRows : Plan → Quaternion → ℕ → Wrench × List Float → List Float
+baseRows p r column s = cond (eqb (p .lead) 0) (s .1) (putSix p column (rotatedOf (s .0) r) (s .1))
+
+unfoldable pub columnVisit : Plan → Quaternion → List ℕ → List ℕ → List Float → ℕ → List Float → List Float
+columnVisit p r parents kinds axes j ws =
+    let column = p .lead + activesOf kinds j in
+    baseRows p r column (walkOf p parents kinds axes column j (forceOf (motionOf kinds axes j) (compositeAt ws (compositePlace j)), ws))
+
+unfoldable pub columnFound : Plan → Quaternion → List ℕ → List ℕ → List Float → Place → List Float → List Float
+columnFound p r parents kinds axes (At j) ws = columnVisit p r parents kinds axes j ws
+columnFound p r parents kinds axes Nothing ws = ws
+
+-- of active number k
+abbrev pub activeColumn : Plan → Quaternion → Model → ℕ → List Float → List Float
+activeColumn p r m k ws = columnFound p r (m .parents) (m .kinds) (m .axes) (activeJoint (m .kinds) (p .n) k) ws
+
+-- ---- what the steps of the code promise each other
+
+-- a plan and a wrench from their numbers
+abbrev pub planWith : ℕ → ℕ → ℕ → Plan
+planWith n lead side = record { n = n; lead = lead; side = side }
+
+abbrev pub wrenchWith : Float → Float → Float → Float → Float → Float → Wrench
+wrenchWith tx ty tz fx fy fz = record { torque = record { x = tx; y = ty; z = tz }; force = record { x = fx; y = fy; z = fz } }
+
+-- the numbers of the wrench at a floating root, in the place of old ones, and the workspace
+unfoldable pub endedOf : ℕ → List Float → Wrench × List Float → List Float × List Float
+endedOf lead old s = (cond (eqb lead 0) old (vectorOf (s .0)), s .1)

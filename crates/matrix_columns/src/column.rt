@@ -1,0 +1,121 @@
+// The column of an active joint: the walk, and the base's rows.
+ghost use mathlib.Core.Path.{_≡_};
+ghost use Prim.Native.Nat.{_+_, _≤_, _<_};
+ghost use lib.ListN.{length};
+ghost use Rattle.arm.specs.Model.{kindOf};
+ghost use Rattle.arm.specs.Topology.{activeJoint};
+ghost use Rattle.calls.specs.Plan.{Fit};
+ghost use Rattle.composites.specs.Plan.{Room};
+ghost use Rattle.matrix_columns.specs.Walk.{walkOf, endedOf, columnVisit, columnFound};
+use crate::walk;
+use arm::model;
+use arm::topology;
+use calls::plan::Plan;
+use composites::composite;
+use composites::plan;
+use numbers::quaternion::Quaternion;
+use refusals::Place;
+use spatial::wrench::Wrench;
+
+// The walk from a wrench at joint j.
+fn walked<'a>(
+    p: Plan,
+    parents: &'a [u8; 32],
+    kinds: &'a [u8; 32],
+    axes: &'a [f64; 96],
+    numbers: &'a [u8; 33],
+    ws: &mut [f64],
+    end: &mut [f64; 6],
+    j: usize,
+    column: usize,
+    w: Wrench,
+)
+    requires { ⌜ Fit p (now parents) (now kinds) (now numbers) × Room p (length (now ws)) × (j < p .n) × (column < p .side) ⌝ }
+    ensures { λ _. ⌜ (now (end .exit), now (ws .exit)) ≡ endedOf (p .lead) (now (end .entry)) (walkOf p (now (parents .entry)) (now (kinds .entry)) (now (axes .entry)) column j (w, now (ws .entry))) ⌝ }
+{
+    let n = p.n;
+    let lead = p.lead;
+    let side = p.side;
+    let t = w.torque;
+    let f = w.force;
+    walk::walk(
+        n,
+        lead,
+        side,
+        parents,
+        kinds,
+        axes,
+        numbers,
+        ws,
+        end,
+        j,
+        column,
+        t.x,
+        t.y,
+        t.z,
+        f.x,
+        f.y,
+        f.z,
+    );
+}
+
+// The column of active joint j: the walk, and the base's rows where it floats.
+fn column_visit<'a>(
+    p: Plan,
+    r: Quaternion,
+    parents: &'a [u8; 32],
+    kinds: &'a [u8; 32],
+    axes: &'a [f64; 96],
+    numbers: &'a [u8; 33],
+    ws: &mut [f64],
+    j: usize,
+)
+    requires { ⌜ Fit p (now parents) (now kinds) (now numbers) × Room p (length (now ws)) × (j < p .n) × (kindOf (now kinds) j ≡ 2 → ⊥) ⌝ }
+    ensures { λ _. ⌜ now (ws .exit) ≡ columnVisit p r (now (parents .entry)) (now (kinds .entry)) (now (axes .entry)) j (now (ws .entry)) ⌝ }
+{
+    let lead = p.lead;
+    let column = plan::row_of(p, parents, kinds, numbers, j);
+    let motion = model::motion_at(kinds, axes, j);
+    let c = composite::composite_at(ws, j * plan::JOINT + plan::COMPOSITE);
+    let force = composite::force(motion, c);
+    let mut end = [0.0; 6];
+    walked(
+        p,
+        parents,
+        kinds,
+        axes,
+        numbers,
+        ws,
+        &mut end,
+        j,
+        column,
+        force,
+    );
+    if lead == 0 {
+        return;
+    }
+    let w = Wrench::from_vector(&end);
+    walk::base_rows(p, r, ws, column, w);
+}
+
+// The column of active number k.
+pub fn active_column<'a>(
+    p: Plan,
+    r: Quaternion,
+    parents: &'a [u8; 32],
+    kinds: &'a [u8; 32],
+    axes: &'a [f64; 96],
+    numbers: &'a [u8; 33],
+    ws: &mut [f64],
+    k: usize,
+)
+    requires { ⌜ Fit p (now parents) (now kinds) (now numbers) × Room p (length (now ws)) × (k ≤ p .n) ⌝ }
+    ensures { λ _. ⌜ now (ws .exit) ≡ columnFound p r (now (parents .entry)) (now (kinds .entry)) (now (axes .entry)) (activeJoint (now (kinds .entry)) (p .n) k) (now (ws .entry)) ⌝ }
+{
+    let n = p.n;
+    let found = topology::active_joint(kinds, numbers, n, k);
+    match found {
+        Place::At(j) => column_visit(p, r, parents, kinds, axes, numbers, ws, j),
+        Place::Nothing => {}
+    }
+}
