@@ -1,6 +1,7 @@
 -- A column of the mass matrix, by its walk: "going from a joint to its parent until the root is reached". Definitions only.
 use mathlib.Core.Bool.{cond}
 use mathlib.Core.List.{List}
+use mathlib.Core.Path.{_≡_}
 use Prim.Native.Nat.{ℕ, zero, suc, _+_, _-_}
 use lib.Dec.{eqb}
 use lib.Ieee.{Float}
@@ -82,6 +83,9 @@ planWith n lead side = record { n = n; lead = lead; side = side }
 abbrev pub wrenchWith : Float → Float → Float → Float → Float → Float → Wrench
 wrenchWith tx ty tz fx fy fz = record { torque = record { x = tx; y = ty; z = tz }; force = record { x = fx; y = fy; z = fz } }
 
--- the numbers of the wrench at a floating root, in the place of old ones, and the workspace
-unfoldable pub endedOf : ℕ → List Float → Wrench × List Float → List Float × List Float
-endedOf lead old s = (cond (eqb lead 0) old (vectorOf (s .0)), s .1)
+-- where the walk from joint j has come to: at the root it has ended, and where that floats the wrench's numbers stand in `end`; at another link it goes on at
+-- the link's joint, with the wrench whose numbers stand there
+pub record Reached (p : Plan) (parents kinds : List ℕ) (axes : List Float) (column j : ℕ) (s : Wrench × List Float) (link : ℕ) (end ws : List Float) : Type 0 where
+  pub written : link ≡ 0 → ws ≡ walkOf p parents kinds axes column j s .1
+  pub told : link ≡ 0 → (p .lead ≡ 0 → ⊥) → end ≡ vectorOf (walkOf p parents kinds axes column j s .0)
+  pub goes : (link ≡ 0 → ⊥) → (w : Wrench) × (end ≡ vectorOf w) × (walkOf p parents kinds axes column (link - 1) (w, ws) ≡ walkOf p parents kinds axes column j s)

@@ -6,7 +6,7 @@ ghost use Rattle.arm.specs.Model.{kindOf};
 ghost use Rattle.arm.specs.Topology.{activeJoint};
 ghost use Rattle.calls.specs.Plan.{Fit};
 ghost use Rattle.composites.specs.Plan.{Room};
-ghost use Rattle.matrix_columns.specs.Walk.{walkOf, endedOf, columnVisit, columnFound};
+ghost use Rattle.matrix_columns.specs.Walk.{walkOf, columnVisit, columnFound, Reached};
 use crate::walk;
 use arm::model;
 use arm::topology;
@@ -17,8 +17,11 @@ use numbers::quaternion::Quaternion;
 use refusals::Place;
 use spatial::wrench::Wrench;
 
-// The walk from a wrench at joint j.
-fn walked<'a>(
+// How many joints further a leg of the walk goes.
+const LEG: usize = 8;
+
+// A leg of the walk, from a wrench at joint j.
+fn leg<'a>(
     p: Plan,
     parents: &'a [u8; 32],
     kinds: &'a [u8; 32],
@@ -29,9 +32,9 @@ fn walked<'a>(
     j: usize,
     column: usize,
     w: Wrench,
-)
+) -> usize
     requires { ⌜ Fit p (now parents) (now kinds) (now numbers) × Room p (length (now ws)) × (j < p .n) × (column < p .side) ⌝ }
-    ensures { λ _. ⌜ (now (end .exit), now (ws .exit)) ≡ endedOf (p .lead) (now (end .entry)) (walkOf p (now (parents .entry)) (now (kinds .entry)) (now (axes .entry)) column j (w, now (ws .entry))) ⌝ }
+    ensures { λ r. ⌜ (r ≤ j) × Reached p (now (parents .entry)) (now (kinds .entry)) (now (axes .entry)) column j (w, now (ws .entry)) r (now (end .exit)) (now (ws .exit)) ⌝ }
 {
     let n = p.n;
     let lead = p.lead;
@@ -48,6 +51,7 @@ fn walked<'a>(
         numbers,
         ws,
         end,
+        LEG,
         j,
         column,
         t.x,
@@ -56,7 +60,43 @@ fn walked<'a>(
         f.x,
         f.y,
         f.z,
-    );
+    )
+}
+
+// The walk from a wrench at joint j, and the wrench at the root, where that floats. In legs: of many calls within each other a processor foretells the
+// last returns alone, and in one leg a matrix of 32 joints takes a tenth longer.
+fn walked<'a>(
+    p: Plan,
+    parents: &'a [u8; 32],
+    kinds: &'a [u8; 32],
+    axes: &'a [f64; 96],
+    numbers: &'a [u8; 33],
+    ws: &mut [f64],
+    j: usize,
+    column: usize,
+    w: Wrench,
+) -> Wrench
+    requires { ⌜ Fit p (now parents) (now kinds) (now numbers) × Room p (length (now ws)) × (j < p .n) × (column < p .side) ⌝ }
+    ensures { λ r. ⌜ (now (ws .exit) ≡ walkOf p (now (parents .entry)) (now (kinds .entry)) (now (axes .entry)) column j (w, now (ws .entry)) .1) × ((p .lead ≡ 0 → ⊥) → r ≡ walkOf p (now (parents .entry)) (now (kinds .entry)) (now (axes .entry)) column j (w, now (ws .entry)) .0) ⌝ }
+{
+    let mut end = w.to_vector();
+    let mut link = j + 1;
+    while link != 0 {
+        let v = Wrench::from_vector(&end);
+        link = leg(
+            p,
+            parents,
+            kinds,
+            axes,
+            numbers,
+            ws,
+            &mut end,
+            link - 1,
+            column,
+            v,
+        );
+    }
+    Wrench::from_vector(&end)
 }
 
 // The column of active joint j: the walk, and the base's rows where it floats.
@@ -78,23 +118,10 @@ fn column_visit<'a>(
     let motion = model::motion_at(kinds, axes, j);
     let c = composite::composite_at(ws, j * plan::JOINT + plan::COMPOSITE);
     let force = composite::force(motion, c);
-    let mut end = [0.0; 6];
-    walked(
-        p,
-        parents,
-        kinds,
-        axes,
-        numbers,
-        ws,
-        &mut end,
-        j,
-        column,
-        force,
-    );
+    let w = walked(p, parents, kinds, axes, numbers, ws, j, column, force);
     if lead == 0 {
         return;
     }
-    let w = Wrench::from_vector(&end);
     walk::base_rows(p, r, ws, column, w);
 }
 

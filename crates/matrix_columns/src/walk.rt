@@ -10,7 +10,7 @@ ghost use Rattle.arm.specs.Model.{kindOf};
 ghost use Rattle.arm.specs.Topology.{activesOf};
 ghost use Rattle.calls.specs.Plan.{Fit};
 ghost use Rattle.composites.specs.Plan.{framePlace, Room, putPair, putSix};
-ghost use Rattle.matrix_columns.specs.Walk.{entryOf, putEntry, putHere, walkOf, planWith, wrenchWith, endedOf};
+ghost use Rattle.matrix_columns.specs.Walk.{entryOf, putEntry, putHere, planWith, wrenchWith, Reached};
 use arm::joint::Motion;
 use arm::model;
 use calls::plan::Plan;
@@ -132,8 +132,8 @@ fn put_end(end: &mut [f64; 6], w: Wrench)
     *end = w.to_vector();
 }
 
-// From joint j to its parent until the root is reached; where it floats, `end` is then the wrench there.
-// Plan and wrench come as numbers, which stay in registers: a struct is handed over through memory, which costs 40 % at 32 joints.
+// From joint j to its parent until the root is reached, or `left` joints further; the link that it has come to, with the wrench there in `end`, which a fixed
+// root throws away. Plan and wrench come as numbers, which stay in registers: a struct is handed over through memory, which costs 40 % at 32 joints.
 pub fn walk<'a>(
     n: usize,
     lead: usize,
@@ -144,6 +144,7 @@ pub fn walk<'a>(
     numbers: &'a [u8; 33],
     ws: &mut [f64],
     end: &mut [f64; 6],
+    left: usize,
     j: usize,
     column: usize,
     tx: f64,
@@ -152,21 +153,25 @@ pub fn walk<'a>(
     fx: f64,
     fy: f64,
     fz: f64,
-)
+) -> usize
     requires { ⌜ Fit (planWith n lead side) (now parents) (now kinds) (now numbers) × Room (planWith n lead side) (length (now ws)) × (j < n) × (column < side) ⌝ }
-    ensures { λ _. ⌜ (now (end .exit), now (ws .exit)) ≡ endedOf lead (now (end .entry)) (walkOf (planWith n lead side) (now (parents .entry)) (now (kinds .entry)) (now (axes .entry)) column j (wrenchWith tx ty tz fx fy fz, now (ws .entry))) ⌝ }
+    ensures { λ r. ⌜ (r ≤ j) × Reached (planWith n lead side) (now (parents .entry)) (now (kinds .entry)) (now (axes .entry)) column j (wrenchWith tx ty tz fx fy fz, now (ws .entry)) r (now (end .exit)) (now (ws .exit)) ⌝ }
 {
     let p = Plan { n, lead, side };
     let w = wrench(tx, ty, tz, fx, fy, fz);
     put_here(p, parents, kinds, axes, numbers, ws, j, w, column);
     let parent = model::parent_at(n, parents, j);
     if parent + lead == 0 {
-        return;
+        return 0;
     }
     let up = carried(ws, j, w);
     if parent == 0 {
         put_end(end, up);
-        return;
+        return 0;
+    }
+    if left == 0 {
+        put_end(end, up);
+        return parent;
     }
     let t = up.torque;
     let f = up.force;
@@ -180,6 +185,7 @@ pub fn walk<'a>(
         numbers,
         ws,
         end,
+        left - 1,
         parent - 1,
         column,
         t.x,

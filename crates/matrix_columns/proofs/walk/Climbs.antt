@@ -2,18 +2,18 @@
 use mathlib.Core.Bool.{Bool, true, false, cond}
 use mathlib.Core.List.{List}
 use mathlib.Core.Path.{_≡_, refl, sym, ap, _∙_}
-use Prim.Native.Nat.{ℕ, zero, suc, _-_, _≤_, _<_}
+use Prim.Native.Nat.{ℕ, zero, suc, _+_, _-_, _≤_, _<_}
 use native.Mathlib.Omega.{arith}
 use borrow.Author.Tests.{eqb-false, eq-eqb, ne-eqb}
 use lib.Dec.{eqb}
 use lib.Ieee.{Float}
 use Rattle.spatial.specs.Operators.{wrenchToParent}
-use Rattle.spatial.specs.Wrench.{vectorOf}
+use Rattle.spatial.specs.Wrench.{ofVector, vectorOf}
 use Rattle.spatial.specs.declared.wrench.Wrench.{Wrench}
 use Rattle.slots.specs.Slots.{frameAt}
 use Rattle.arm.specs.Model.{parentOf, Tree}
 use Rattle.composites.specs.Plan.{framePlace}
-use Rattle.matrix_columns.specs.Walk.{putHere, walkStep, climb, walkOf, wrenchWith, endedOf}
+use Rattle.matrix_columns.specs.Walk.{putHere, walkStep, climb, walkOf, wrenchWith, Reached}
 use Rattle.calls.specs.declared.plan.Plan.{Plan}
 
 same-cond : {S : Type 0} (b : Bool) (x y z : S) → (b ≡ false → y ≡ z) → cond b x y ≡ cond b x z
@@ -55,34 +55,74 @@ module _ (p : Plan) (parents kinds : List ℕ) (axes : List Float) (column j : �
       ∙ ap (climb (parentOf parents) (walkStep p kinds axes column) j (parentOf parents j - 1)) e
       ∙ sym (climb-goes (parentOf parents) (walkStep p kinds axes column) j j s z)
 
--- ---- what the walk ends with
+-- ---- where it has come to
 
-module _ (lead : ℕ) (old : List Float) (s : Wrench × List Float) where
-  ended-fixed : lead ≡ 0 → (old, s .1) ≡ endedOf lead old s
-  unfolding endedOf
-  ended-fixed z = simp (eq-eqb lead 0 z)
+-- what goes on to the same end has reached the same
+pub reached-on : (p : Plan) (parents kinds : List ℕ) (axes : List Float) (column i j : ℕ) (s t : Wrench × List Float) (link : ℕ) (end ws : List Float)
+    → walkOf p parents kinds axes column i t ≡ walkOf p parents kinds axes column j s → Reached p parents kinds axes column i t link end ws → Reached p parents kinds axes column j s link end ws
+reached-on p parents kinds axes column i j s t link end ws e g =
+    record {
+      written = λ z. rw (← e) (g .written z);
+      told = λ z l. rw (← e) (g .told z l);
+      goes = λ h. let r = g .goes h in (r .0, r .1, r .2 ∙ e);
+    }
 
-  ended-floats : (lead ≡ 0 → ⊥) → (vectorOf (s .0), s .1) ≡ endedOf lead old s
-  unfolding endedOf
-  ended-floats z = simp (ne-eqb lead 0 z)
-
-module _ (p : Plan) (parents kinds : List ℕ) (axes : List Float) (column j : ℕ) (old ws : List Float) {tx ty tz fx fy fz : Float} {w : Wrench} {put : List Float} {parent : ℕ}
+module _ (p : Plan) (parents kinds : List ℕ) (axes : List Float) (column j : ℕ) (ws : List Float) {tx ty tz fx fy fz : Float} {w : Wrench} {put : List Float} {parent : ℕ}
     (is : w ≡ wrenchWith tx ty tz fx fy fz) (e : put ≡ putHere p kinds axes column j w ws) (u : parent ≡ parentOf parents j) where
   stepped : (wrenchToParent (frameAt put (framePlace j)) w, put) ≡ walkStep p kinds axes column j (wrenchWith tx ty tz fx fy fz, ws)
   unfolding walkStep
   stepped = rw (e, is)
 
   -- a fixed root throws the last wrench away
-  pub end-fixed : parent ≡ 0 → p .lead ≡ 0 → (old, put) ≡ endedOf (p .lead) old (walkOf p parents kinds axes column j (wrenchWith tx ty tz fx fy fz, ws))
-  end-fixed z l = ended-fixed (p .lead) old _ l ∙ ap (endedOf (p .lead) old) (walk-ends p parents kinds axes column j (wrenchWith tx ty tz fx fy fz, ws) _ stepped (sym u ∙ z))
+  pub reached-fixed : (end : List Float) → parent ≡ 0 → p .lead ≡ 0 → Reached p parents kinds axes column j (wrenchWith tx ty tz fx fy fz, ws) 0 end put
+  reached-fixed end z l =
+      record {
+        written = λ y. ap (λ (t : Wrench × List Float). t .1) (walk-ends p parents kinds axes column j (wrenchWith tx ty tz fx fy fz, ws) _ stepped (sym u ∙ z));
+        told = λ y f. absurd (f l);
+        goes = λ h. absurd (h refl);
+      }
 
   module _ {up : Wrench} (f : up ≡ wrenchToParent (frameAt put (framePlace j)) w) where
     moved : (up, put) ≡ walkStep p kinds axes column j (wrenchWith tx ty tz fx fy fz, ws)
     moved = rw f stepped
 
-    pub end-floats : {end : List Float} → parent ≡ 0 → (p .lead ≡ 0 → ⊥) → end ≡ vectorOf up → (end, put) ≡ endedOf (p .lead) old (walkOf p parents kinds axes column j (wrenchWith tx ty tz fx fy fz, ws))
-    end-floats z l g = rw g (ended-floats (p .lead) old (up, put) l ∙ ap (endedOf (p .lead) old) (walk-ends p parents kinds axes column j (wrenchWith tx ty tz fx fy fz, ws) _ moved (sym u ∙ z)))
+    pub reached-root : {end : List Float} → parent ≡ 0 → end ≡ vectorOf up → Reached p parents kinds axes column j (wrenchWith tx ty tz fx fy fz, ws) 0 end put
+    reached-root z g =
+        let q = walk-ends p parents kinds axes column j (wrenchWith tx ty tz fx fy fz, ws) _ moved (sym u ∙ z) in
+        record {
+          written = λ y. ap (λ (t : Wrench × List Float). t .1) q;
+          told = λ y l. g ∙ ap (λ (t : Wrench × List Float). vectorOf (t .0)) q;
+          goes = λ h. absurd (h refl);
+        }
 
-    pub end-goes : {out : List Float × List Float} → Tree (p .n) parents → j < p .n → (parent ≡ 0 → ⊥) → out ≡ endedOf (p .lead) old (walkOf p parents kinds axes column (parent - 1) (up, put)) →
-        out ≡ endedOf (p .lead) old (walkOf p parents kinds axes column j (wrenchWith tx ty tz fx fy fz, ws))
-    end-goes t h z g = rw u at g ∙ ap (endedOf (p .lead) old) (walk-goes p parents kinds axes column j (wrenchWith tx ty tz fx fy fz, ws) _ moved (p .n) t h (λ y. z (u ∙ y)))
+    module _ (tree : Tree (p .n) parents) (h : j < p .n) (nz : parent ≡ 0 → ⊥) where
+      on : walkOf p parents kinds axes column (parent - 1) (up, put) ≡ walkOf p parents kinds axes column j (wrenchWith tx ty tz fx fy fz, ws)
+      on = rw u (walk-goes p parents kinds axes column j (wrenchWith tx ty tz fx fy fz, ws) _ moved (p .n) tree h (λ y. nz (u ∙ y)))
+
+      -- a leg ends at the parent
+      pub reached-parent : {end : List Float} → end ≡ vectorOf up → Reached p parents kinds axes column j (wrenchWith tx ty tz fx fy fz, ws) parent end put
+      reached-parent g = record { written = λ z. absurd (nz z); told = λ z l. absurd (nz z); goes = λ y. (up, g, on) }
+
+      -- or goes on there
+      pub reached-beyond : (link : ℕ) (end ws′ : List Float) → Reached p parents kinds axes column (parent - 1) (up, put) link end ws′ → Reached p parents kinds axes column j (wrenchWith tx ty tz fx fy fz, ws) link end ws′
+      reached-beyond link end ws′ = reached-on p parents kinds axes column (parent - 1) j (wrenchWith tx ty tz fx fy fz, ws) (up, put) link end ws′ on
+
+-- ---- legs
+
+module _ (p : Plan) (parents kinds : List ℕ) (axes : List Float) (column j : ℕ) (s : Wrench × List Float) where
+  -- before the first
+  pub reached-none : {link : ℕ} {end : List Float} → link ≡ j + 1 → end ≡ vectorOf (s .0) → Reached p parents kinds axes column j s link end (s .1)
+  reached-none e g =
+      record {
+        written = λ z. absurd (omega (arith, e, z));
+        told = λ z l. absurd (omega (arith, e, z));
+        goes = λ h. let i : j + 1 - 1 ≡ j = omega arith in (s .0, g, rw (e, i) refl);
+      }
+
+  -- one more
+  pub reached-next : {link : ℕ} {end ws : List Float} {v : Wrench} (link′ : ℕ) (end′ ws′ : List Float) → (link ≡ 0 → ⊥) → Reached p parents kinds axes column j s link end ws → v ≡ ofVector end
+      → Reached p parents kinds axes column (link - 1) (v, ws) link′ end′ ws′ → Reached p parents kinds axes column j s link′ end′ ws′
+  reached-next {link = link} {ws = ws} {v = v} link′ end′ ws′ nz g ev r =
+      let here = g .goes nz in
+      let is : v ≡ here .0 = rw (ev, here .1) refl in
+      reached-on p parents kinds axes column (link - 1) j s (v, ws) link′ end′ ws′ (rw is (here .2)) r

@@ -4,7 +4,7 @@ use borrow.Author.Needs.{needs}
 use borrow.Fn.Kinds.{In}
 use borrow.Fn.PlainCycle.{Measures, is, falls, and}
 use Rattle.matrix_columns.specs.Walk.{planWith}
-use Rattle.matrix_columns.proofs.walk.Climbs.{end-fixed, end-floats, end-goes}
+use Rattle.matrix_columns.proofs.walk.Climbs.{reached-fixed, reached-root, reached-parent, reached-beyond}
 use Rattle.matrix_columns.proofs.walk.walk.Reads as walk
 use Rattle.matrix_columns.proofs.walk.walk.Kinds as walk-kinds
 use Rattle.matrix_columns.proofs.walk.+walk.Lts-walk as walk-lts
@@ -17,7 +17,7 @@ use Rattle.matrix_columns.proofs.walk.+walk.{statement}
 use Rattle.matrix_columns.proofs.walk.+walk.Tie.{close}
 
 abbrev μ-walk : Measures 3 walk-kinds.ps ℕ
-μ-walk κs a = a .1 .1 .1 .1 .1 .1 .1 .1 .1 .0
+μ-walk κs a = a .1 .1 .1 .1 .1 .1 .1 .1 .1 .1 .0
 
 abbrev walk-at : ℕ → In 3 walk-kinds.ps
 walk-at t = and 3 walk-kinds.ps (is 3 walk-kinds.ps μ-walk t) walk.Pre
@@ -56,7 +56,7 @@ pub +walk-spec : {M : Type 1} → statement M
     let b4 = b1 .before .before .before in
     let b6 = b4 .before .before in
     let b8 = b6 .before .before in
-    end-fixed (planWith (b8 .args .n) (b8 .args .lead) (b8 .args .side)) (b8 .args .parents .now) (b8 .args .kinds .now) (b8 .args .axes .now) (b8 .args .column) (b8 .args .j) (b8 .args .end .now) (b8 .args .ws .now) (b6 .wrench .ensures) (b4 .put-here .ensures) (b1 .parent-at .ensures .0) (omega (arith, c .if1 .taken)) (omega (arith, c .if1 .taken)))
+    (omega arith, reached-fixed (planWith (b8 .args .n) (b8 .args .lead) (b8 .args .side)) (b8 .args .parents .now) (b8 .args .kinds .now) (b8 .args .axes .now) (b8 .args .column) (b8 .args .j) (b8 .args .ws .now) (b6 .wrench .ensures) (b4 .put-here .ensures) (b1 .parent-at .ensures .0) (b8 .args .end .now) (omega (arith, c .if1 .taken)) (omega (arith, c .if1 .taken))))
     (λ c κs. search needs)
     -- a floating one
     (λ c κs. search needs)
@@ -64,26 +64,37 @@ pub +walk-spec : {M : Type 1} → statement M
     (λ c.
     let b2 = c .before .before in
     let b3 = b2 .before in
-    let b5 = b3 .before .before in
-    let b6 = b5 .before in
+    let b6 = b3 .before .before .before in
     let b9 = b6 .before .before .before in
     let b11 = b9 .before .before in
     let b13 = b11 .before .before in
-    end-floats (planWith (b13 .args .n) (b13 .args .lead) (b13 .args .side)) (b13 .args .parents .now) (b13 .args .kinds .now) (b13 .args .axes .now) (b13 .args .column) (b13 .args .j) (b13 .args .end .now) (b13 .args .ws .now) (b11 .wrench .ensures) (b9 .put-here .ensures) (b6 .parent-at .ensures .0) (b3 .carried .ensures) (omega (arith, b2 .if2 .taken)) (λ z. b5 .if1 .left (omega (arith, z, b2 .if2 .taken))) (c .put-end .ensures))
-    -- the parent's walk
+    (omega arith, reached-root (planWith (b13 .args .n) (b13 .args .lead) (b13 .args .side)) (b13 .args .parents .now) (b13 .args .kinds .now) (b13 .args .axes .now) (b13 .args .column) (b13 .args .j) (b13 .args .ws .now) (b11 .wrench .ensures) (b9 .put-here .ensures) (b6 .parent-at .ensures .0) (b3 .carried .ensures) (omega (arith, b2 .if2 .taken)) (c .put-end .ensures)))
+    -- the leg ends at the parent
+    (λ c κs. search needs)
+    (λ c. search needs)
+    (λ c.
+    let b3 = c .before .before .before in
+    let b4 = b3 .before in
+    let b7 = b4 .before .before .before in
+    let b10 = b7 .before .before .before in
+    let b12 = b10 .before .before in
+    let b14 = b12 .before .before in
+    (b7 .parent-at .ensures .1, reached-parent (planWith (b14 .args .n) (b14 .args .lead) (b14 .args .side)) (b14 .args .parents .now) (b14 .args .kinds .now) (b14 .args .axes .now) (b14 .args .column) (b14 .args .j) (b14 .args .ws .now) (b12 .wrench .ensures) (b10 .put-here .ensures) (b7 .parent-at .ensures .0) (b4 .carried .ensures) (b14 .pre .1 .0 .good .tree) (b14 .pre .1 .2) (b3 .if2 .left) (c .put-end2 .ensures)))
+    -- or goes on there
+    (λ c. search needs)
     (λ c. search needs)
     (λ c κs.
-    let b4 = c .before .before .before .before in
-    let b8 = b4 .before .before .before .before in
-    let b15 = b8 .before .before .before .before .before .before .before in
-    (omega (arith, b15 .pre .0, b8 .parent-at .ensures .1, b4 .if2 .left), (b15 .pre .1 .0, search needs, omega (arith, b8 .parent-at .ensures .1, b4 .if2 .left, b15 .pre .1 .2), b15 .pre .1 .3)))
+    let b5 = c .before .before .before .before .before in
+    let b9 = b5 .before .before .before .before in
+    let b16 = b9 .before .before .before .before .before .before .before in
+    (omega (arith, b16 .pre .0, b9 .parent-at .ensures .1, b5 .if2 .left), (b16 .pre .1 .0, search needs, omega (arith, b9 .parent-at .ensures .1, b5 .if2 .left, b16 .pre .1 .2), b16 .pre .1 .3)))
     (λ c. search needs)
     (λ c.
     let b2 = c .before .before in
-    let b7 = b2 .before .before .before .before .before in
-    let b8 = b7 .before in
-    let b11 = b8 .before .before .before in
-    let b14 = b11 .before .before .before in
-    let b16 = b14 .before .before in
-    let b18 = b16 .before .before in
-    end-goes (planWith (b18 .args .n) (b18 .args .lead) (b18 .args .side)) (b18 .args .parents .now) (b18 .args .kinds .now) (b18 .args .axes .now) (b18 .args .column) (b18 .args .j) (b18 .args .end .now) (b18 .args .ws .now) (b16 .wrench .ensures) (b14 .put-here .ensures) (b11 .parent-at .ensures .0) (b8 .carried .ensures) (b18 .pre .1 .0 .good .tree) (b18 .pre .1 .2) (b7 .if2 .left) (b2 .walk .ensures))
+    let b8 = b2 .before .before .before .before .before .before in
+    let b9 = b8 .before in
+    let b12 = b9 .before .before .before in
+    let b15 = b12 .before .before .before in
+    let b17 = b15 .before .before in
+    let b19 = b17 .before .before in
+    (omega (arith, b2 .walk .ensures .0, b12 .parent-at .ensures .1, b8 .if2 .left), reached-beyond (planWith (b19 .args .n) (b19 .args .lead) (b19 .args .side)) (b19 .args .parents .now) (b19 .args .kinds .now) (b19 .args .axes .now) (b19 .args .column) (b19 .args .j) (b19 .args .ws .now) (b17 .wrench .ensures) (b15 .put-here .ensures) (b12 .parent-at .ensures .0) (b9 .carried .ensures) (b19 .pre .1 .0 .good .tree) (b19 .pre .1 .2) (b8 .if2 .left) _ _ _ (b2 .walk .ensures .1)))
