@@ -5,7 +5,7 @@ ghost use Prim.Native.Nat.{_+_, _≤_};
 ghost use lib.ListN.{length, take};
 ghost use Rattle.words.specs.Read.{wordsAt};
 ghost use Rattle.replies.specs.Replies.{room, textOf};
-ghost use Rattle.forward_dynamics.specs.Inputs.{inputsBy};
+ghost use Rattle.forward_visits.specs.Inputs.{inputsBy};
 ghost use Rattle.dynamics.specs.Calculation.{workOf};
 ghost use Rattle.calculations.specs.Make.{madeOf};
 ghost use Rattle.calculation_requests.specs.Request.{ones, madeLine, idleBy, calculateRequest, repeatRequest, resumeRequest};

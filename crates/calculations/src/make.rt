@@ -3,7 +3,7 @@ ghost use mathlib.Core.Path.{_≡_};
 ghost use Prim.Native.Nat.{_≤_};
 ghost use lib.ListN.{length};
 ghost use Rattle.calls.specs.Position.{startOf};
-ghost use Rattle.forward_dynamics.specs.Inputs.{inputsBy};
+ghost use Rattle.forward_visits.specs.Inputs.{inputsBy};
 ghost use Rattle.dynamics.specs.Calculation.{workBy};
 ghost use Rattle.calculations.specs.Make.{inPortions, begunIn, onceOf, timesOf, madeOf, madeBy};
 use calls::position::Answer;

@@ -9,7 +9,7 @@ use Rattle.arm.specs.declared.model.Model.{Model}
 use Rattle.calls.specs.Position.{Work, startOf}
 use Rattle.calls.specs.Portions.{Call, dividedOf, RefusesAll, Underway, Undivided}
 use Rattle.calls.proofs.Portions.{underway, undivided}
-use Rattle.forward_dynamics.specs.Inputs.{Inputs}
+use Rattle.forward_visits.specs.Inputs.{Inputs}
 use Rattle.dynamics.specs.Calculation.{workOf}
 use Rattle.dynamics.specs.declared.calculation.Calculation.{Calculation}
 use Rattle.dynamics.proofs.Sound.{sound}

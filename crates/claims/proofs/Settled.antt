@@ -18,7 +18,7 @@ use Rattle.matrix_visits.proofs.Places.{keeps}
 use Rattle.mass_matrix.specs.MassMatrix.{massMatrix, floats, rotationOf}
 use Rattle.forward_visits.proofs.Places.{keeps as forward-keeps}
 use Rattle.forward_dynamics.specs.ForwardDynamics.{forwardDynamics, baseVelocity, floats as forwardFloats, rotationOf as forwardRotation}
-use Rattle.forward_dynamics.specs.Inputs.{Inputs}
+use Rattle.forward_visits.specs.Inputs.{Inputs}
 use Rattle.dynamics.specs.Calculation.{workOf}
 use Rattle.dynamics.specs.declared.calculation.Calculation.{Calculation}
 use Rattle.dynamics.specs.declared.calculation.Calculation.the-variants.{Matrix, Forward}

@@ -28,7 +28,7 @@ use Rattle.calls.specs.declared.position.Outcome.the-variants as outcome
 use Rattle.mass_matrix.specs.MassMatrix.{massMatrix}
 use Rattle.mass_matrix.specs.declared.mass_matrix.Mode.the-variants as matrix
 use Rattle.forward_dynamics.specs.ForwardDynamics.{forwardDynamics}
-use Rattle.forward_dynamics.specs.Inputs.{inputsBy}
+use Rattle.forward_visits.specs.Inputs.{inputsBy}
 use Rattle.forward_dynamics.specs.declared.forward_dynamics.Mode.{Mode}
 use Rattle.forward_dynamics.specs.declared.forward_dynamics.Mode.the-variants.{Fixed, Floating}
 

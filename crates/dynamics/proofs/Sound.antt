@@ -2,7 +2,7 @@
 use Rattle.arm.specs.declared.model.Model.{Model}
 use Rattle.calls.specs.Portions.{Sound}
 use Rattle.mass_matrix.proofs.Sound.{sound as matrix-sound}
-use Rattle.forward_dynamics.specs.Inputs.{Inputs}
+use Rattle.forward_visits.specs.Inputs.{Inputs}
 use Rattle.forward_dynamics.proofs.Sound.{sound as forward-sound}
 use Rattle.dynamics.specs.Calculation.{workOf}
 use Rattle.dynamics.specs.declared.calculation.Calculation.{Calculation}

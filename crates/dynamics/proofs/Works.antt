@@ -21,14 +21,16 @@ use Rattle.calls.specs.declared.position.Position.{Position}
 use Rattle.calls.specs.declared.position.Progress.{Progress}
 use Rattle.calls.proofs.Fits.{within-fresh}
 use Rattle.composites.specs.Plan.{matrixPlace}
+use Rattle.matrix_visits.specs.Kernel as matrix-visits
 use Rattle.mass_matrix.specs.MassMatrix as matrix
 use Rattle.mass_matrix.specs.MassMatrix.{massMatrix}
 use Rattle.mass_matrix.specs.declared.mass_matrix.Mode.{Mode}
 use Rattle.mass_matrix.proofs.Ready as matrix-ready
 use Rattle.forward_slots.specs.Layout.{resultsPlace}
+use Rattle.forward_visits.specs.Kernel as forward-visits
 use Rattle.forward_dynamics.specs.ForwardDynamics as forward
 use Rattle.forward_dynamics.specs.ForwardDynamics.{forwardDynamics}
-use Rattle.forward_dynamics.specs.Inputs.{Inputs}
+use Rattle.forward_visits.specs.Inputs.{Inputs}
 use Rattle.forward_dynamics.specs.declared.forward_dynamics.Mode.{Mode as Root}
 use Rattle.forward_dynamics.proofs.Ready as forward-ready
 use Rattle.dynamics.specs.Calculation.{workOf, workBy, isMatrix, floats, verdictOf}
@@ -101,7 +103,7 @@ module _ (c : Calculation) (n : ℕ) (parents kinds : List ℕ) (a : ℕ) {f : B
   -- and what it answers
   module _ (origins axes links : List Float) (i : Inputs) (budget : ℕ) (from : Position) (ws out : List Float) (s : Progress) {t : Answer} (et : t ≡ answerBy from s) {ws′ out′ : List Float} where
     pub ran-matrix : {mode : Mode} (r : Quaternion) → c ≡ Matrix mode → r ≡ matrix.rotationOf mode
-        → (s, ws′, out′) ≡ iterate (stepBy (matrix.visitsBy p r parents kinds origins axes links (i .q)) (matrixPlace (p .n))) budget (opening from, ws, out)
+        → (s, ws′, out′) ≡ iterate (stepBy (matrix-visits.visitsBy p r parents kinds origins axes links (i .q)) (matrixPlace (p .n))) budget (opening from, ws, out)
         → (t, ws′, out′) ≡ ran (workBy c n parents kinds origins axes links i) budget from ws out
     unfolding massMatrix planBy
     ran-matrix {mode = mode} r ec er es =
@@ -110,7 +112,7 @@ module _ (c : Calculation) (n : ℕ) (parents kinds : List ℕ) (a : ℕ) {f : B
 
     pub ran-forward : {mode : Root} (rotation : Quaternion) (base velocity : Twist) → c ≡ Forward mode → rotation ≡ forward.rotationOf mode → base ≡ forward.baseVelocity mode
         → velocity ≡ rootVelocity rotation base
-        → (s, ws′, out′) ≡ iterate (stepBy (forward.visitsBy p rotation velocity parents kinds origins axes links i) (resultsPlace (p .n))) budget (opening from, ws, out)
+        → (s, ws′, out′) ≡ iterate (stepBy (forward-visits.visitsBy p rotation velocity parents kinds origins axes links i) (resultsPlace (p .n))) budget (opening from, ws, out)
         → (t, ws′, out′) ≡ ran (workBy c n parents kinds origins axes links i) budget from ws out
     unfolding forwardDynamics planBy
     ran-forward {mode = mode} rotation base velocity ec er eb ev es =

@@ -11,7 +11,7 @@ use Rattle.mass_matrix.specs.Checks as matrix
 use Rattle.mass_matrix.specs.MassMatrix.{massMatrix, floats as matrixFloats, rotationOf as matrixRotation}
 use Rattle.forward_dynamics.specs.Checks as forward
 use Rattle.forward_dynamics.specs.ForwardDynamics.{forwardDynamics, floats as forwardFloats, rotationOf as forwardRotation, baseVelocity}
-use Rattle.forward_dynamics.specs.Inputs.{Inputs, inputsBy}
+use Rattle.forward_visits.specs.Inputs.{Inputs, inputsBy}
 use Rattle.dynamics.specs.declared.calculation.Calculation.{Calculation}
 use Rattle.dynamics.specs.declared.calculation.Calculation.the-variants.{Matrix, Forward}
 

@@ -8,7 +8,7 @@ ghost use Rattle.refusals.specs.declared.Verdict.the-variants.{Fine};
 ghost use Rattle.arm.specs.Topology.{activesOf, activeNumbers};
 ghost use Rattle.calls.specs.Plan.{planBy, Within};
 ghost use Rattle.calls.specs.Position.{positionVerdict, ran, startOf, portionOf, wholeOf};
-ghost use Rattle.forward_dynamics.specs.Inputs.{inputsBy};
+ghost use Rattle.forward_visits.specs.Inputs.{inputsBy};
 ghost use Rattle.dynamics.specs.Calculation.{workBy, isMatrix, floats, verdictOf};
 use crate::calculation::Calculation;
 use arm::topology;

@@ -17,7 +17,7 @@ use Rattle.calls.proofs.Passed.{tame, not-short, as-wanted, counted}
 use Rattle.forward_slots.specs.Layout.{roomOf, Room}
 use Rattle.forward_dynamics.specs.Checks.{motionVerdict, forcesVerdict, loadsVerdict, restVerdict, inputsVerdict}
 use Rattle.forward_dynamics.specs.ForwardDynamics.{Ready}
-use Rattle.forward_dynamics.specs.Inputs.{Inputs}
+use Rattle.forward_visits.specs.Inputs.{Inputs}
 
 roomy : (floating : Bool) (n : ℕ) (parents kinds : List ℕ) (ws : ℕ) → Good n parents kinds → roomOf n ≤ ws → Room (planOf floating n kinds) ws
 unfolding planBy

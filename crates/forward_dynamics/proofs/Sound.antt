@@ -20,7 +20,7 @@ use Rattle.calls.proofs.Steps.{still-within}
 use Rattle.forward_visits.specs.Kernel.{visitOf}
 use Rattle.forward_visits.proofs.Kept.{length-visit, last-ends, others-wait}
 use Rattle.forward_dynamics.specs.ForwardDynamics.{floats, rotationOf, baseVelocity, forwardDynamics}
-use Rattle.forward_dynamics.specs.Inputs.{Inputs}
+use Rattle.forward_visits.specs.Inputs.{Inputs}
 use Rattle.forward_dynamics.specs.declared.forward_dynamics.Mode.{Mode}
 
 -- after a visit that leaves it open, a position has a visit left

@@ -19,7 +19,7 @@ use Rattle.arm.specs.Model.{wildOf}
 use Rattle.calls.specs.Checks.{valuesVerdict, turnsVerdict, badRotation}
 use Rattle.calls.specs.Plan.{planOf}
 use Rattle.forward_slots.specs.Layout.{roomOf}
-use Rattle.forward_dynamics.specs.Inputs.{Inputs}
+use Rattle.forward_visits.specs.Inputs.{Inputs}
 
 unfoldable pub wildNumber : List Float → ℕ → Bool
 wildNumber s i = not (finite (getD s i nan))

@@ -8,16 +8,14 @@ use lib.Ieee.{Float}
 use Rattle.numbers.specs.declared.quaternion.Quaternion.{Quaternion}
 use Rattle.spatial.specs.Twist.{zerosOf}
 use Rattle.spatial.specs.declared.twist.Twist.{Twist}
-use Rattle.arm.specs.Model.{bundle}
 use Rattle.arm.specs.Topology.{activesOf}
 use Rattle.arm.specs.declared.model.Model.{Model}
 use Rattle.calls.specs.Position.{Work}
-use Rattle.calls.specs.declared.position.Outcome.{Outcome}
 use Rattle.articulated.specs.Root.{rootVelocity}
 use Rattle.calls.specs.Plan.{planOf, Fit}
 use Rattle.forward_slots.specs.Layout.{resultsPlace, Room}
 use Rattle.forward_dynamics.specs.Checks.{inputsVerdict}
-use Rattle.forward_dynamics.specs.Inputs.{Inputs}
+use Rattle.forward_visits.specs.Inputs.{Inputs}
 use Rattle.forward_visits.specs.Kernel.{visitOf}
 use Rattle.forward_dynamics.specs.declared.forward_dynamics.Mode.{Mode}
 use Rattle.forward_dynamics.specs.declared.forward_dynamics.Mode.the-variants.{Fixed, Floating}
@@ -49,10 +47,6 @@ forwardDynamics mode m i =
     }
 
 -- ---- what the steps of the code promise each other
-
--- the visits of a model's lists
-abbrev pub visitsBy : Plan → Quaternion → Twist → List ℕ → List ℕ → List Float → List Float → List Float → Inputs → ℕ → List Float → Outcome × List Float
-visitsBy p rotation velocity parents kinds origins axes links i = visitOf p rotation velocity (bundle (p .n) parents kinds origins axes links) (i .q) (i .qd) (i .forces) (i .loaded) (i .loads)
 
 -- the checks have passed
 pub record Ready (p : Plan) (parents kinds numbers : List ℕ) (i : Inputs) (ws out : ℕ) : Type 0 where

@@ -6,7 +6,7 @@ ghost use lib.ListN.{length};
 ghost use Rattle.arm.specs.Topology.{activesOf, activeNumbers};
 ghost use Rattle.refusals.specs.Refusals.{lowest};
 ghost use Rattle.forward_dynamics.specs.Checks.{wildNumber, lowerIf, aboveAt, wildLoad, leastTo, motionVerdict, forcesVerdict, loadsVerdict, rootVerdict, restVerdict, inputsVerdict};
-ghost use Rattle.forward_dynamics.specs.Inputs.{inputsBy};
+ghost use Rattle.forward_visits.specs.Inputs.{inputsBy};
 use arm::model;
 use arm::topology;
 use calls::checks;

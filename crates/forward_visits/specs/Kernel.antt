@@ -9,6 +9,7 @@ use Rattle.refusals.specs.declared.Verdict.{Verdict}
 use Rattle.refusals.specs.declared.Verdict.the-variants.{Fine}
 use Rattle.refusals.specs.declared.Verdict.the-variants as verdict
 use Rattle.spatial.specs.declared.twist.Twist.{Twist}
+use Rattle.arm.specs.Model.{bundle}
 use Rattle.arm.specs.declared.model.Model.{Model}
 use Rattle.calls.specs.declared.position.Outcome.{Outcome}
 use Rattle.calls.specs.declared.position.Outcome.the-variants.{Open, Accepted, Refused}
@@ -17,6 +18,7 @@ use Rattle.forward_passes.specs.First.{firstVisit}
 use Rattle.forward_passes.specs.Second.{secondVisit}
 use Rattle.forward_passes.specs.Root.{begunOf, rootVisit}
 use Rattle.forward_passes.specs.Third.{thirdVisit}
+use Rattle.forward_visits.specs.Inputs.{Inputs}
 
 -- the last visit accepts
 unfoldable pub outcomeOf : Verdict → Bool → Outcome
@@ -36,3 +38,9 @@ unfoldable pub visitOf : Plan → Quaternion → Twist → Model → List Float 
 visitOf p rotation velocity m q qd forces loaded loads at ws =
     let v = passVisit p rotation velocity m q qd forces at (begunOf (p .n) velocity (m .links) loaded loads at ws) in
     (outcomeOf (v .0) (eqb at (p .n + p .n + p .n)), v .1)
+
+-- ---- what the steps of the code promise each other
+
+-- the visits of a model's lists
+abbrev pub visitsBy : Plan → Quaternion → Twist → List ℕ → List ℕ → List Float → List Float → List Float → Inputs → ℕ → List Float → Outcome × List Float
+visitsBy p rotation velocity parents kinds origins axes links i = visitOf p rotation velocity (bundle (p .n) parents kinds origins axes links) (i .q) (i .qd) (i .forces) (i .loaded) (i .loads)

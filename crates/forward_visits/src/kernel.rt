@@ -6,7 +6,8 @@ ghost use Rattle.arm.specs.Model.{bundle};
 ghost use Rattle.arm.specs.Topology.{activesOf};
 ghost use Rattle.calls.specs.Plan.{Fit};
 ghost use Rattle.forward_slots.specs.Layout.{Room};
-ghost use Rattle.forward_visits.specs.Kernel.{outcomeOf, passVisit, visitOf};
+ghost use Rattle.forward_visits.specs.Inputs.{inputsBy};
+ghost use Rattle.forward_visits.specs.Kernel.{outcomeOf, passVisit, visitsBy};
 use calls::plan::Plan;
 use calls::position::Outcome;
 use forward_passes::first;
@@ -99,7 +100,7 @@ pub fn visit<'a>(
     at: usize,
 ) -> Outcome
     requires { ⌜ Fit p (now parents) (now kinds) (now numbers) × Room p (length (now ws)) × (length (now q) ≡ activesOf (now kinds) (p .n)) × (length (now qd) ≡ activesOf (now kinds) (p .n)) × (length (now forces) ≡ p .side) × (length (now loads) ≡ 6 * length (now loaded)) × (at ≤ p .n + p .n + p .n) ⌝ }
-    ensures { λ r. ⌜ (r, now (ws .exit)) ≡ visitOf p rotation velocity (bundle (p .n) (now (parents .entry)) (now (kinds .entry)) (now (origins .entry)) (now (axes .entry)) (now (links .entry))) (now (q .entry)) (now (qd .entry)) (now (forces .entry)) (now (loaded .entry)) (now (loads .entry)) at (now (ws .entry)) ⌝ }
+    ensures { λ r. ⌜ (r, now (ws .exit)) ≡ visitsBy p rotation velocity (now (parents .entry)) (now (kinds .entry)) (now (origins .entry)) (now (axes .entry)) (now (links .entry)) (inputsBy (now (q .entry)) (now (qd .entry)) (now (forces .entry)) (now (loaded .entry)) (now (loads .entry))) at (now (ws .entry)) ⌝ }
 {
     let n = p.n;
     root::begin(n, velocity, links, loaded, loads, ws, at);

@@ -7,13 +7,11 @@ use lib.Ieee.{Float}
 use Rattle.numbers.specs.Double.{0·0, 1·0}
 use Rattle.numbers.specs.Vec3.{vecBy}
 use Rattle.numbers.specs.declared.quaternion.Quaternion.{Quaternion}
-use Rattle.arm.specs.Model.{bundle}
 use Rattle.arm.specs.Topology.{activesOf}
 use Rattle.arm.specs.declared.model.Model.{Model}
 use Rattle.calls.specs.Plan.{planOf, Fit}
 use Rattle.calls.specs.Position.{Work}
 use Rattle.calls.specs.declared.plan.Plan.{Plan}
-use Rattle.calls.specs.declared.position.Outcome.{Outcome}
 use Rattle.matrix_visits.specs.Kernel.{visitOf}
 use Rattle.composites.specs.Plan.{matrixPlace, Room}
 use Rattle.mass_matrix.specs.Checks.{inputsVerdict}
@@ -43,10 +41,6 @@ massMatrix mode m q =
     }
 
 -- ---- what the steps of the code promise each other
-
--- the visits of a model's lists
-abbrev pub visitsBy : Plan → Quaternion → List ℕ → List ℕ → List Float → List Float → List Float → List Float → ℕ → List Float → Outcome × List Float
-visitsBy p r parents kinds origins axes links q = visitOf p r (bundle (p .n) parents kinds origins axes links) q
 
 -- the checks have passed
 pub record Ready (p : Plan) (parents kinds numbers : List ℕ) (q ws out : ℕ) : Type 0 where

@@ -14,7 +14,7 @@ use Rattle.spatial.specs.Wrench.{rotatedOf}
 use Rattle.spatial.specs.declared.wrench.Wrench.{Wrench}
 use Rattle.slots.specs.Slots.{frameAt, putFrame, putWrench, zeroTo}
 use Rattle.arm.specs.Joint.{frameOf}
-use Rattle.arm.specs.Model.{parentOf, jointOf, linkOf}
+use Rattle.arm.specs.Model.{bundle, parentOf, jointOf, linkOf}
 use Rattle.arm.specs.Topology.{valueOf}
 use Rattle.arm.specs.declared.joint.Motion.the-variants.{Turn, Slide}
 use Rattle.arm.specs.declared.model.Link.{Link}
@@ -99,3 +99,7 @@ visitOf p r m q at ws =
 -- the composite that a joint's is added to
 unfoldable pub intoPlace : ℕ → ℕ → ℕ
 intoPlace n parent = cond (eqb parent 0) (rootPlace n) (compositePlace (parent - 1))
+
+-- the visits of a model's lists
+abbrev pub visitsBy : Plan → Quaternion → List ℕ → List ℕ → List Float → List Float → List Float → List Float → ℕ → List Float → Outcome × List Float
+visitsBy p r parents kinds origins axes links q = visitOf p r (bundle (p .n) parents kinds origins axes links) q

@@ -251,7 +251,7 @@ pub fn visit<'a>(
     at: usize,
 ) -> Outcome
     requires { ⌜ Fit p (now parents) (now kinds) (now numbers) × Room p (length (now ws)) × (length (now q) ≡ activesOf (now kinds) (p .n)) ⌝ }
-    ensures { λ o. ⌜ (o, now (ws .exit)) ≡ visitOf p r (bundle (p .n) (now (parents .entry)) (now (kinds .entry)) (now (origins .entry)) (now (axes .entry)) (now (links .entry))) (now (q .entry)) at (now (ws .entry)) ⌝ }
+    ensures { λ o. ⌜ (o, now (ws .exit)) ≡ visitsBy p r (now (parents .entry)) (now (kinds .entry)) (now (origins .entry)) (now (axes .entry)) (now (links .entry)) (now (q .entry)) at (now (ws .entry)) ⌝ }
 {
     let n = p.n;
     let lead = p.lead;

@@ -15,7 +15,7 @@ use Rattle.numbers.specs.declared.quaternion.Quaternion.{Quaternion}
 use Rattle.calls.specs.declared.position.Position.{Position}
 use Rattle.mass_matrix.specs.declared.mass_matrix.Mode.the-variants as matrix
 use Rattle.forward_dynamics.specs.declared.forward_dynamics.Mode.the-variants as forward
-use Rattle.forward_dynamics.specs.Inputs.{Inputs, inputsBy}
+use Rattle.forward_visits.specs.Inputs.{Inputs, inputsBy}
 use Rattle.dynamics.specs.declared.calculation.Calculation.{Calculation}
 use Rattle.dynamics.specs.declared.calculation.Calculation.the-variants as of
 use Rattle.readings.specs.declared.read.Kind.{Kind}

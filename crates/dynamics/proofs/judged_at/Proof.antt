@@ -2,7 +2,7 @@ use mathlib.Core.Path.{sym, _∙_}
 use borrow.Author.Needs.{needs}
 use Rattle.refusals.specs.Refusals.{orElse}
 use Rattle.calls.proofs.Fits.{few-actives}
-use Rattle.forward_dynamics.specs.Inputs.{inputsBy}
+use Rattle.forward_visits.specs.Inputs.{inputsBy}
 use Rattle.dynamics.proofs.Works.{passed-good}
 use Rattle.dynamics.proofs.judged_at.Statement.{statement}
 use Rattle.dynamics.proofs.judged_at.Tie as tie

@@ -5,7 +5,7 @@ use Rattle.refusals.proofs.Verdicts.{both-fine}
 use Rattle.arm.specs.Model.{bundle}
 use Rattle.calls.proofs.Calls.{portion-refused, portion-fine}
 use Rattle.calls.proofs.Fits.{within-judged}
-use Rattle.forward_dynamics.specs.Inputs.{inputsBy}
+use Rattle.forward_visits.specs.Inputs.{inputsBy}
 use Rattle.dynamics.specs.Calculation.{isMatrix, floats}
 use Rattle.dynamics.proofs.Works.{checks-are, passed-good}
 use Rattle.dynamics.proofs.portion.Statement.{statement}

@@ -2,7 +2,7 @@ use lib.ListN.{length}
 use borrow.Author.Needs.{needs}
 use Rattle.calls.proofs.Fits.{few-actives}
 use Rattle.calls.proofs.Steps.{run-ahead}
-use Rattle.forward_dynamics.specs.Inputs.{inputsBy}
+use Rattle.forward_visits.specs.Inputs.{inputsBy}
 use Rattle.dynamics.proofs.Works.{passed-good, ready-matrix, ready-forward, ran-matrix, ran-forward}
 use Rattle.dynamics.proofs.ran.Statement.{statement}
 use Rattle.dynamics.proofs.ran.Tie as tie

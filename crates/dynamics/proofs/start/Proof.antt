@@ -3,7 +3,7 @@ use lib.ListN.{length}
 use borrow.Author.Needs.{needs}
 use Rattle.arm.specs.Model.{bundle}
 use Rattle.calls.proofs.Calls.{start-refused, start-fine}
-use Rattle.forward_dynamics.specs.Inputs.{inputsBy}
+use Rattle.forward_visits.specs.Inputs.{inputsBy}
 use Rattle.dynamics.proofs.Works.{inputs-are, shut-by, fresh-by, passed-good}
 use Rattle.dynamics.proofs.start.Statement.{statement}
 use Rattle.dynamics.proofs.start.Tie as tie

@@ -4,7 +4,7 @@ use borrow.Author.Needs.{needs}
 use Rattle.arm.specs.Model.{bundle}
 use Rattle.calls.proofs.Calls.{whole-refused, whole-fine}
 use Rattle.calls.proofs.Fits.{few-actives}
-use Rattle.forward_dynamics.specs.Inputs.{inputsBy}
+use Rattle.forward_visits.specs.Inputs.{inputsBy}
 use Rattle.dynamics.proofs.Works.{inputs-are, shut-by, fresh-by, visits-by, fresh-within, passed-good}
 use Rattle.dynamics.proofs.whole.Statement.{statement}
 use Rattle.dynamics.proofs.whole.Tie as tie

@@ -19,7 +19,7 @@ use Rattle.calls.specs.Checks.{valuesVerdict}
 use Rattle.calls.specs.Plan.{planBy}
 use Rattle.forward_slots.specs.Layout.{roomOf}
 use Rattle.forward_dynamics.specs.Checks.{restVerdict, inputsVerdict}
-use Rattle.forward_dynamics.specs.Inputs.{Inputs}
+use Rattle.forward_visits.specs.Inputs.{Inputs}
 use Rattle.calls.specs.declared.plan.Plan.{Plan}
 
 -- six times y, by a quotient and a remainder

@@ -4,7 +4,7 @@ use Prim.Native.Nat.{_-_, _≤_, _<_}
 use native.Mathlib.Omega.{arith}
 use borrow.Author.Needs.{needs}
 use lib.ListN.{length, length-set}
-use Rattle.forward_dynamics.specs.Inputs.{inputsBy}
+use Rattle.forward_visits.specs.Inputs.{inputsBy}
 use Rattle.dynamics.specs.Calculation.{workBy}
 use Rattle.calculations.specs.Make.{inPortions}
 use Rattle.calculations.proofs.make.Laws.{after, portion-on, portions-end}

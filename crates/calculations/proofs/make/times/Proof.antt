@@ -3,7 +3,7 @@ use mathlib.Core.Path.{_≡_, refl, sym, _∙_}
 use Prim.Native.Nat.{_-_, _≤_}
 use borrow.Author.Needs.{needs}
 use lib.ListN.{length}
-use Rattle.forward_dynamics.specs.Inputs.{inputsBy}
+use Rattle.forward_visits.specs.Inputs.{inputsBy}
 use Rattle.dynamics.specs.Calculation.{workBy}
 use Rattle.calculations.specs.Make.{againOf, timesOf, madeBy}
 use Rattle.calls.specs.Position.{iterate}

@@ -4,7 +4,7 @@ use Rattle.arm.proofs.topology.Counts.{actives-le}
 use borrow.Author.Needs.{needs}
 use Rattle.forward_dynamics.proofs.checks.Ways.{refuses-9, refuses-10, refuses-values, goes-on}
 use Rattle.calls.proofs.Passed.{counted}
-use Rattle.forward_dynamics.specs.Inputs.{inputsBy}
+use Rattle.forward_visits.specs.Inputs.{inputsBy}
 use Rattle.forward_dynamics.proofs.checks.judged.Statement.{statement}
 use Rattle.forward_dynamics.proofs.checks.judged.Tie as tie
 

@@ -13,8 +13,8 @@ use Rattle.calls.specs.Position.{State, stepBy, iterate}
 use Rattle.calls.specs.declared.plan.Plan.{Plan}
 use Rattle.calls.proofs.Steps.{run-stops, run-spent, run-on}
 use Rattle.forward_slots.specs.Layout.{resultsPlace}
-use Rattle.forward_dynamics.specs.ForwardDynamics.{visitsBy}
-use Rattle.forward_dynamics.specs.Inputs.{Inputs, inputsBy}
+use Rattle.forward_visits.specs.Kernel.{visitsBy}
+use Rattle.forward_visits.specs.Inputs.{Inputs, inputsBy}
 use Rattle.forward_dynamics.proofs.run.run.Statement.{statement}
 use Rattle.forward_dynamics.proofs.run.run.Tie as tie
 

@@ -12,7 +12,7 @@ use Rattle.calls.specs.Position.{State, stepBy, iterate}
 use Rattle.calls.specs.declared.plan.Plan.{Plan}
 use Rattle.calls.proofs.Steps.{run-stops, run-spent, run-on}
 use Rattle.composites.specs.Plan.{matrixPlace}
-use Rattle.mass_matrix.specs.MassMatrix.{visitsBy}
+use Rattle.matrix_visits.specs.Kernel.{visitsBy}
 use Rattle.mass_matrix.proofs.run.run.Statement.{statement}
 use Rattle.mass_matrix.proofs.run.run.Tie as tie
 
