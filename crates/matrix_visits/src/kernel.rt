@@ -8,7 +8,7 @@ ghost use Rattle.arm.specs.Model.{bundle, Tree, parentOf};
 ghost use Rattle.arm.specs.Topology.{activesOf};
 ghost use Rattle.calls.specs.Plan.{Fit};
 ghost use Rattle.composites.specs.Plan.{compositePlace, rootPlace, Room, placeOf};
-ghost use Rattle.matrix_visits.specs.Kernel.{begunOf, frameVisit, addInto, compositeVisit, worldAxis, baseLoad, baseLoadsTo, rootColumns, tested, rootVisit, jointVisit, visitOf, intoPlace};
+ghost use Rattle.matrix_visits.specs.Kernel.{begunOf, frameVisit, addInto, compositeVisit, worldAxis, baseLoad, baseLoadsTo, rootColumns, tested, rootVisit, jointVisit, visitsBy, intoPlace};
 use arm::joint;
 use arm::model;
 use arm::model::Link;
