@@ -7,10 +7,11 @@ ghost use Rattle.words.specs.Read.{wordsAt};
 ghost use Rattle.replies.specs.Replies.{room, textOf};
 ghost use Rattle.forward_visits.specs.Inputs.{inputsBy};
 ghost use Rattle.dynamics.specs.Calculation.{workOf};
-ghost use Rattle.calculations.specs.Make.{madeOf};
+ghost use Rattle.calculations.specs.Make.{madeOf, madeBy};
 ghost use Rattle.calculation_requests.specs.Request.{ones, madeLine, idleBy, calculateRequest, repeatRequest, resumeRequest};
 use arm::model::Model;
 use calculations::make::How;
+use calculations::make::Last;
 use calculations::make::make;
 use dynamics::calculation::Calculation;
 use readings::read::Kind;
@@ -49,6 +50,45 @@ fn fill(s: &mut [f64])
     }
 }
 
+// The calculation on a model: its lists are lent.
+fn made<'a>(
+    how: How,
+    c: Calculation,
+    m: Model,
+    q: &'a [f64],
+    qd: &'a [f64],
+    forces: &'a [f64],
+    loaded: &'a [u64],
+    loads: &'a [f64],
+    budgets: &'a [u64],
+    counts: &mut [u64],
+    ws: &mut [f64],
+    out: &mut [f64],
+) -> Last
+    requires { ⌜ (length (now budgets) ≤ 4096) × (length (now counts) ≡ 4096) ⌝ }
+    ensures { λ r. ⌜ (madeBy r (now (counts .exit)) (now (ws .exit)) (now (out .exit)) ≡ madeOf how (workOf c m (inputsBy (now (q .entry)) (now (qd .entry)) (now (forces .entry)) (now (loaded .entry)) (now (loads .entry)))) (now (budgets .entry)) (now (ws .entry)) (now (out .entry))) × (r .counts ≤ length (now (counts .exit))) × (length (now (counts .exit)) ≡ length (now (counts .entry))) ⌝ }
+{
+    make(
+        how,
+        c,
+        m.n,
+        &m.parents,
+        &m.kinds,
+        &m.origins,
+        &m.axes,
+        &m.links,
+        q,
+        qd,
+        forces,
+        loaded,
+        loads,
+        budgets,
+        counts,
+        ws,
+        out,
+    )
+}
+
 // What is made on these buffers, as text.
 fn put_answer<'a>(
     m: Model,
@@ -71,15 +111,10 @@ fn put_answer<'a>(
 {
     fill(ws);
     fill(out);
-    let last = make(
+    let last = made(
         how,
         c,
-        m.n,
-        &m.parents,
-        &m.kinds,
-        &m.origins,
-        &m.axes,
-        &m.links,
+        m,
         q,
         qd,
         forces,
