@@ -10,8 +10,9 @@ use Rattle.numbers.specs.Double.{0·0}
 use Rattle.numbers.specs.Table.{tab}
 use Rattle.refusals.specs.Refusals.{lowest}
 use Rattle.refusals.specs.declared.Place.{Place}
-use Rattle.arm.specs.Joint.{isFixed}
-use Rattle.arm.specs.Model.{kindOf}
+use Rattle.spatial.specs.declared.frame.Frame.{Frame}
+use Rattle.arm.specs.Joint.{isFixed, frameOf}
+use Rattle.arm.specs.Model.{kindOf, jointOf}
 
 -- how many of the joints below j are active: joint j's own number where it is
 unfoldable pub activesOf : List ℕ → ℕ → ℕ
@@ -26,6 +27,10 @@ activeNumbers kinds = tab (activesOf kinds) 33
 -- joint j's number of q or qd; a fixed joint's is +0.0
 unfoldable pub valueOf : List ℕ → List Float → ℕ → Float
 valueOf kinds q j = cond (isFixed (kindOf kinds j)) 0·0 (getD q (activesOf kinds j) nan)
+
+-- joint j's frame in its parent link, at the numbers q
+abbrev pub jointFrame : List ℕ → List ℕ → List Float → List Float → List Float → ℕ → Frame
+jointFrame parents kinds origins axes q j = let joint = jointOf parents kinds origins axes j in frameOf (joint .origin) (joint .motion) (valueOf kinds q j)
 
 -- ---- the joint of an active number
 

@@ -4,10 +4,13 @@ ghost use Prim.Native.Nat.{_≤_, _<_};
 ghost use lib.Ieee.{nan};
 ghost use lib.ListN.{getD, length};
 ghost use Rattle.arm.specs.Joint.{kindNumber};
-ghost use Rattle.arm.specs.Model.{kindOf};
-ghost use Rattle.arm.specs.Topology.{activesOf, activeNumbers, valueOf, holdsOf, activeJoint};
+ghost use Rattle.arm.specs.Model.{Good, kindOf};
+ghost use Rattle.arm.specs.Topology.{jointFrame, activesOf, activeNumbers, valueOf, holdsOf, activeJoint};
+use crate::joint;
 use crate::joint::Motion;
+use crate::model;
 use refusals::Place;
+use spatial::frame::Frame;
 
 // How many joints below each joint number are active: worked out once for a call.
 pub fn active_numbers(kinds: &[u8; 32]) -> [u8; 33]
@@ -84,6 +87,27 @@ pub fn value_of<'a>(
         Motion::Slide(_) => own_value(kinds, numbers, q, n, j),
         Motion::Fixed => 0.0,
     }
+}
+
+// Joint j's frame in its parent link: for both calculations here, so that one call draws the joint's own functions in.
+pub fn frame_at<'a>(
+    n: usize,
+    parents: &'a [u8; 32],
+    kinds: &'a [u8; 32],
+    origins: &'a [f64; 224],
+    axes: &'a [f64; 96],
+    numbers: &'a [u8; 33],
+    q: &'a [f64],
+    j: usize,
+) -> Frame
+    requires { ⌜ Good n (now parents) (now kinds) × (now numbers ≡ activeNumbers (now kinds)) × (j < n) × (length (now q) ≡ activesOf (now kinds) n) ⌝ }
+    ensures { λ r. ⌜ r ≡ jointFrame (now (parents .entry)) (now (kinds .entry)) (now (origins .entry)) (now (axes .entry)) (now (q .entry)) j ⌝ }
+{
+    let joint = model::joint_at(n, parents, kinds, origins, axes, j);
+    let origin = joint.origin;
+    let motion = joint.motion;
+    let value = value_of(motion, kinds, numbers, q, n, j);
+    joint::frame(origin, motion, value)
 }
 
 // Joint j is active and has active number k.

@@ -7,7 +7,6 @@ use Rattle.spatial.specs.Wrench.{plusOf as wrenchPlus}
 use Rattle.spatial.specs.declared.frame.Frame.{Frame}
 use Rattle.spatial.specs.declared.twist.Twist.{Twist}
 use Rattle.spatial.specs.declared.wrench.Wrench.{Wrench}
-use Rattle.arm.specs.Joint.{frameOf}
 use Rattle.arm.specs.declared.joint.Motion.{Motion}
 use Rattle.arm.specs.declared.model.Link.{Link}
 use Rattle.inertia.specs.Inertia.{rigidOf, inertiaApply, subspaceOf}
@@ -20,10 +19,9 @@ bodyInertia link = rigidOf (link .mass) (link .moment) (link .inertia)
 unfoldable pub biasForce : List Float → Twist → Wrench → Wrench
 biasForce inertia velocity load = wrenchPlus (forceCross velocity (inertiaApply inertia velocity)) load
 
--- at value q and speed qd, where the parent link moves with `parent`
-unfoldable pub firstOf : Frame → Motion → Float → Float → Twist → List Float → Wrench → First
-firstOf origin motion q qd parent inertia load =
-    let frame = frameOf origin motion q in
+-- at speed qd, where the parent link moves with `parent`
+unfoldable pub firstOf : Frame → Motion → Float → Twist → List Float → Wrench → First
+firstOf frame motion qd parent inertia load =
     let jointVelocity = scaleOf (subspaceOf motion) qd in
     let velocity = plusOf (motionToChild frame parent) jointVelocity in
     record {

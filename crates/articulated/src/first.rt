@@ -1,7 +1,6 @@
 // First pass: a joint's frame, velocity, velocity bias and bias force.
 ghost use mathlib.Core.Path.{_≡_};
 ghost use Rattle.articulated.specs.First.{bodyInertia, biasForce, firstOf};
-use arm::joint;
 use arm::joint::Motion;
 use arm::model::Link;
 use spatial::frame::Frame;
@@ -30,19 +29,17 @@ pub fn bias_force(inertia: &[f64; 36], velocity: Twist, load: Wrench) -> Wrench
     operators::force_cross(velocity, momentum).plus(load)
 }
 
-// A joint at value q and speed qd, whose parent link moves with `parent`.
+// A joint with this frame, at speed qd, whose parent link moves with `parent`.
 pub fn first_pass(
-    origin: Frame,
+    frame: Frame,
     motion: Motion,
-    q: f64,
     qd: f64,
     parent: Twist,
     inertia: &[f64; 36],
     load: Wrench,
 ) -> First
-    ensures { λ r. ⌜ r ≡ firstOf origin motion q qd parent (now (inertia .entry)) load ⌝ }
+    ensures { λ r. ⌜ r ≡ firstOf frame motion qd parent (now (inertia .entry)) load ⌝ }
 {
-    let frame = joint::frame(origin, motion, q);
     let joint_velocity = inertia::joint_motion_subspace(motion).scale(qd);
     let velocity = operators::motion_to_child(frame, parent).plus(joint_velocity);
     let bias = operators::motion_cross(velocity, joint_velocity);

@@ -7,7 +7,7 @@ use lib.Ieee.{Float}
 use Rattle.spatial.specs.declared.twist.Twist.{Twist}
 use Rattle.slots.specs.Slots.{twistAt, wrenchAt, putFrame, putTwist, putWrench, putMat6}
 use Rattle.arm.specs.Model.{jointOf, linkOf}
-use Rattle.arm.specs.Topology.{valueOf}
+use Rattle.arm.specs.Topology.{valueOf, jointFrame}
 use Rattle.arm.specs.declared.model.Model.{Model}
 use Rattle.articulated.specs.First.{bodyInertia, firstOf}
 use Rattle.articulated.specs.declared.first.First.{First}
@@ -25,7 +25,7 @@ putFirst ws j f =
 unfoldable pub firstAt : Twist → List ℕ → List ℕ → List Float → List Float → List Float → List Float → List Float → ℕ → List Float → First
 firstAt velocity parents kinds origins axes q qd inertia j ws =
     let joint = jointOf parents kinds origins axes j in
-    firstOf (joint .origin) (joint .motion) (valueOf kinds q j) (valueOf kinds qd j) (parentTwist ws (joint .parent) velocity (velocityPlace (joint .parent - 1))) inertia (wrenchAt ws (loadPlace j))
+    firstOf (jointFrame parents kinds origins axes q j) (joint .motion) (valueOf kinds qd j) (parentTwist ws (joint .parent) velocity (velocityPlace (joint .parent - 1))) inertia (wrenchAt ws (loadPlace j))
 
 unfoldable pub firstVisit : Twist → Model → List Float → List Float → ℕ → List Float → List Float
 firstVisit velocity m q qd j ws =

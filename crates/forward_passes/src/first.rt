@@ -61,13 +61,12 @@ fn first_at<'a>(
     let n = p.n;
     let joint = model::joint_at(n, parents, kinds, origins, axes, j);
     let parent = joint.parent;
-    let origin = joint.origin;
     let motion = joint.motion;
-    let value = topology::value_of(motion, kinds, numbers, q, n, j);
+    let frame = topology::frame_at(n, parents, kinds, origins, axes, numbers, q, j);
     let speed = topology::value_of(motion, kinds, numbers, qd, n, j);
     let carried = parent_twist(ws, parent, velocity, layout::VELOCITY);
     let load = slots::wrench_at(ws, j * layout::JOINT + layout::LOAD);
-    first::first_pass(origin, motion, value, speed, carried, inertia, load)
+    first::first_pass(frame, motion, speed, carried, inertia, load)
 }
 
 // Joint j's numbers of the first pass, and its own link's inertia.

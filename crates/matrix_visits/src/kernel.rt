@@ -9,7 +9,6 @@ ghost use Rattle.arm.specs.Topology.{activesOf};
 ghost use Rattle.calls.specs.Plan.{Fit};
 ghost use Rattle.composites.specs.Plan.{compositePlace, rootPlace, Room, placeOf};
 ghost use Rattle.matrix_visits.specs.Kernel.{begunOf, frameVisit, addInto, compositeVisit, worldAxis, baseLoad, baseLoadsTo, rootColumns, tested, rootVisit, jointVisit, visitsBy, intoPlace};
-use arm::joint;
 use arm::model;
 use arm::model::Link;
 use arm::topology;
@@ -60,11 +59,7 @@ fn frame_visit<'a>(
     ensures { λ _. ⌜ now (ws .exit) ≡ frameVisit (bundle (p .n) (now (parents .entry)) (now (kinds .entry)) (now (origins .entry)) (now (axes .entry)) (now (links .entry))) (now (q .entry)) j (now (ws .entry)) ⌝ }
 {
     let n = p.n;
-    let joint = model::joint_at(n, parents, kinds, origins, axes, j);
-    let origin = joint.origin;
-    let motion = joint.motion;
-    let value = topology::value_of(motion, kinds, numbers, q, n, j);
-    let frame = joint::frame(origin, motion, value);
+    let frame = topology::frame_at(n, parents, kinds, origins, axes, numbers, q, j);
     slots::put_frame(ws, j * plan::JOINT, frame);
     let link = model::link_at(links, j + 1);
     composite::put_composite(ws, j * plan::JOINT + plan::COMPOSITE, link);

@@ -3,9 +3,6 @@ use borrow.Author.Needs.{needs}
 use Rattle.articulated.proofs.first.first_pass.Statement.{statement}
 use Rattle.articulated.proofs.first.first_pass.Tie as tie
 
-frame-requires : tie.Need-frame-requires
-frame-requires c κs = search needs
-
 joint-motion-subspace-requires : tie.Need-joint-motion-subspace-requires
 joint-motion-subspace-requires c κs = search needs
 
@@ -26,13 +23,12 @@ bias-force-requires c κs = search needs
 
 returns : tie.Need-returns
 unfolding firstOf
-returns c = let b1 = c .before in let b2 = b1 .before in let b3 = b2 .before in let b4 = b3 .before in let b5 = b4 .before in let b6 = b5 .before in rw (c .bias-force .ensures, b1 .motion-cross .ensures, b2 .plus .ensures, b3 .motion-to-child .ensures, b4 .scale .ensures, b5 .joint-motion-subspace .ensures, b6 .frame .ensures)
+returns c = let b1 = c .before in let b2 = b1 .before in let b3 = b2 .before in let b4 = b3 .before in let b5 = b4 .before in rw (c .bias-force .ensures, b1 .motion-cross .ensures, b2 .plus .ensures, b3 .motion-to-child .ensures, b4 .scale .ensures, b5 .joint-motion-subspace .ensures)
 
 pub first-pass-spec : {M : Type 1} → statement M
 first-pass-spec =
     tie.close
     (tie.spec
-    frame-requires
     joint-motion-subspace-requires
     scale-requires
     motion-to-child-requires

@@ -6,11 +6,11 @@ use Rattle.forward_passes.proofs.first.first_at.Tie as tie
 joint-at-requires : tie.Need-joint-at-requires
 joint-at-requires c κs = search needs
 
+frame-at-requires : tie.Need-frame-at-requires
+frame-at-requires c κs = search needs
+
 value-of-requires : tie.Need-value-of-requires
 value-of-requires c κs = search needs
-
-value-of-requires-2 : tie.Need-value-of-requires-2
-value-of-requires-2 c κs = search needs
 
 parent-twist-requires : tie.Need-parent-twist-requires
 parent-twist-requires c κs = search needs
@@ -29,15 +29,15 @@ first-pass-requires c κs = search needs
 
 returns : tie.Need-returns
 unfolding firstAt
-returns c = let b1 = c .before in let b2 = b1 .before in let b3 = b2 .before in let b4 = b3 .before in let b6 = b4 .before .before in rw (c .first-pass .ensures, b1 .wrench-at .ensures, b2 .parent-twist .ensures, b3 .value-of2 .ensures, b4 .value-of .ensures, b6 .joint-at .ensures .0)
+returns c = let b1 = c .before in let b2 = b1 .before in let b3 = b2 .before in let b4 = b3 .before in let b5 = b4 .before in rw (c .first-pass .ensures, b1 .wrench-at .ensures, b2 .parent-twist .ensures, b3 .value-of .ensures, b4 .frame-at .ensures, b5 .joint-at .ensures .0)
 
 pub first-at-spec : {M : Type 1} → statement M
 first-at-spec =
     tie.close
     (tie.spec
     joint-at-requires
+    frame-at-requires
     value-of-requires
-    value-of-requires-2
     parent-twist-requires
     mul-wrench-at
     add-wrench-at

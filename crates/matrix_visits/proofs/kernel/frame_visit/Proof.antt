@@ -4,14 +4,8 @@ use borrow.Author.Needs.{needs}
 use Rattle.matrix_visits.proofs.kernel.frame_visit.Statement.{statement}
 use Rattle.matrix_visits.proofs.kernel.frame_visit.Tie as tie
 
-joint-at-requires : tie.Need-joint-at-requires
-joint-at-requires c κs = search needs
-
-value-of-requires : tie.Need-value-of-requires
-value-of-requires c κs = search needs
-
-frame-requires : tie.Need-frame-requires
-frame-requires c κs = search needs
+frame-at-requires : tie.Need-frame-at-requires
+frame-at-requires c κs = search needs
 
 mul-put-frame : tie.Need-mul-put-frame
 mul-put-frame c = search needs
@@ -26,28 +20,26 @@ link-at-requires : tie.Need-link-at-requires
 link-at-requires c κs = search needs
 
 mul-put-composite : tie.Need-mul-put-composite
-mul-put-composite c = let b12 = c .before .before .before .before .before .before .before .before .before .before .before .before in search (needs, b12 .pre .1 .few, b12 .pre .2)
+mul-put-composite c = let b9 = c .before .before .before .before .before .before .before .before .before in search (needs, b9 .pre .1 .few, b9 .pre .2)
 
 add-put-composite : tie.Need-add-put-composite
-add-put-composite c = let b12 = c .before .before .before .before .before .before .before .before .before .before .before .before in search (needs, b12 .pre .1 .few, b12 .pre .2)
+add-put-composite c = let b9 = c .before .before .before .before .before .before .before .before .before in search (needs, b9 .pre .1 .few, b9 .pre .2)
 
 put-composite-requires : tie.Need-put-composite-requires
-put-composite-requires c κs = let b4 = c .before .before .before .before in let b12 = b4 .before .before .before .before .before .before .before .before in omega (arith, b12 .pre .1 .room, b12 .pre .2, b4 .put-frame .kept .0)
+put-composite-requires c κs = let b4 = c .before .before .before .before in let b9 = b4 .before .before .before .before .before in omega (arith, b9 .pre .1 .room, b9 .pre .2, b4 .put-frame .kept .0)
 
 same-length : tie.Need-same-length
 same-length c = search needs
 
 returns : tie.Need-returns
 unfolding frameVisit
-returns c = let b2 = c .before .before in let b4 = b2 .before .before in let b7 = b4 .before .before .before in let b9 = b7 .before .before in let b10 = b9 .before in let b12 = b10 .before .before in simp (b2 .put-composite .ensures, b4 .link-at .ensures, b7 .put-frame .ensures, b9 .frame .ensures, b10 .value-of .ensures, b12 .joint-at .ensures .0)
+returns c = let b2 = c .before .before in let b4 = b2 .before .before in let b7 = b4 .before .before .before in let b9 = b7 .before .before in simp (b2 .put-composite .ensures, b4 .link-at .ensures, b7 .put-frame .ensures, b9 .frame-at .ensures)
 
 pub frame-visit-spec : {M : Type 1} → statement M
 frame-visit-spec =
     tie.close
     (tie.spec
-    joint-at-requires
-    value-of-requires
-    frame-requires
+    frame-at-requires
     mul-put-frame
     put-frame-requires
     add-link-at
