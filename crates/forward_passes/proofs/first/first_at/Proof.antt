@@ -16,13 +16,13 @@ parent-twist-requires : tie.Need-parent-twist-requires
 parent-twist-requires c κs = search needs
 
 mul-wrench-at : tie.Need-mul-wrench-at
-mul-wrench-at c = search needs
+mul-wrench-at c = let b7 = c .before .before .before .before .before .before .before in search (needs, b7 .pre .1 .few, b7 .pre .2)
 
 add-wrench-at : tie.Need-add-wrench-at
-add-wrench-at c = search needs
+add-wrench-at c = let b7 = c .before .before .before .before .before .before .before in search (needs, b7 .pre .1 .few, b7 .pre .2)
 
 wrench-at-requires : tie.Need-wrench-at-requires
-wrench-at-requires c κs = search needs
+wrench-at-requires c κs = let b7 = c .before .before .before .before .before .before .before in search (needs, b7 .pre .1 .few, b7 .pre .1 .room, b7 .pre .2)
 
 first-pass-requires : tie.Need-first-pass-requires
 first-pass-requires c κs = search needs
