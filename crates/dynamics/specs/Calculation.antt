@@ -11,7 +11,7 @@ use Rattle.mass_matrix.specs.Checks as matrix
 use Rattle.mass_matrix.specs.MassMatrix.{massMatrix, floats as matrixFloats, rotationOf as matrixRotation}
 use Rattle.forward_dynamics.specs.Checks as forward
 use Rattle.forward_dynamics.specs.ForwardDynamics.{forwardDynamics, floats as forwardFloats, rotationOf as forwardRotation, baseVelocity}
-use Rattle.forward_visits.specs.Inputs.{Inputs, inputsBy}
+use Rattle.forward_visits.specs.Inputs.{Inputs}
 use Rattle.dynamics.specs.declared.calculation.Calculation.{Calculation}
 use Rattle.dynamics.specs.declared.calculation.Calculation.the-variants.{Matrix, Forward}
 
@@ -20,11 +20,11 @@ abbrev pub workOf : Calculation → Model → Inputs → Work
 workOf (Matrix mode) m i = massMatrix mode m (i .q)
 workOf (Forward mode) m i = forwardDynamics mode m i
 
--- ---- what the steps of the code promise each other
-
 -- the calculation on a model's lists
 abbrev pub workBy : Calculation → ℕ → List ℕ → List ℕ → List Float → List Float → List Float → Inputs → Work
 workBy c n parents kinds origins axes links i = workOf c (bundle n parents kinds origins axes links) i
+
+-- ---- what the steps of the code promise each other
 
 abbrev pub isMatrix : Calculation → Bool
 isMatrix (Matrix mode) = true

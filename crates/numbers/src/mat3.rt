@@ -1,6 +1,6 @@
 // 3×3 matrices, by rows.
 ghost use mathlib.Core.Path.{_≡_};
-ghost use Rattle.numbers.specs.Mat3.{plusOf, minusOf, negOf, transposeOf, applyOf, timesOf, turnedOf, outerOf, identityBy, crossMatrixOf};
+ghost use Rattle.numbers.specs.Mat3.{plusOf, minusOf, negOf, transposeOf, applyOf, timesOf, outerOf, identityBy, crossMatrixOf};
 use crate::vec3::Vec3;
 
 pub struct Mat3 {
@@ -128,13 +128,6 @@ impl Mat3 {
                 z: self.r2.x * b.r0.z + self.r2.y * b.r1.z + self.r2.z * b.r2.z,
             },
         }
-    }
-
-    // self m selfᵀ.
-    pub fn turned(self, m: Mat3) -> Mat3
-        ensures { λ r. ⌜ r ≡ turnedOf self m ⌝ }
-    {
-        self.times(m).times(self.transpose())
     }
 }
 
