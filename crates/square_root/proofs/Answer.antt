@@ -3,7 +3,7 @@ use mathlib.Core.Path.{_≡_, refl, sym, ap, _∙_, subst}
 use mathlib.Core.Logic.{_⊎_, inl, inr}
 use mathlib.Core.Bool.{Bool, true, false, not, cond, _&&_, _||_, Bool·beq, true≢false}
 use Prim.Native.Nat.{ℕ, zero, suc, _+_, _-_, _*_, _/_, _%_, _^_, _≤_, _<_}
-use native.Mathlib.Nat.{lt-of-lt-of-le, mul-assoc, mul-pos, two-pow-succ, eq-or-lt-of-le, lt-irrefl, zero-mul, le-antisymm, mod-lt, zero-lt-suc, mul-one}
+use native.Mathlib.Nat.{lt-of-lt-of-le, le-of-lt, mul-assoc, mul-pos, two-pow-succ, eq-or-lt-of-le, lt-irrefl, zero-mul, le-antisymm, mod-lt, zero-lt-suc, mul-one}
 use native.Mathlib.Omega.{arith}
 use lib.IntN.{ℤ, pos}
 use lib.Dec.{T, ltb, eqb, ltb→lt, lt→ltb, nltb→le, eqb→eq, lit<, not-T}
@@ -12,13 +12,14 @@ use lib.Count.{leadingZeros}
 use lib.Ieee.{Float, nan, inf, fin, binary64, up, down, fits, isNan, nanBits, toBits, ofBits, size, ne, eq, lt}
 use lib.Ieee.Fits.{and-i, and-l, and-r, up-pos, eq→eqb}
 use lib.Ieee.Compare.{differs-from-itself, nan-differs}
-use lib.Ieee.Bits.{ofBits-toBits, ofBits-fits, nanBits-above, is-false, is-true}
+use lib.Ieee.Bits.{ofBits-toBits, ofBits-fits, is-false, is-true}
 use lib.Ieee.Positive.{positive, positive-of-value}
 use Rattle.square_root.specs.declared.Root.{Root}
 use Rattle.square_root.specs.declared.Root.the-variants.{Is, No}
 use Rattle.square_root.specs.SquareRoot.{mag, Nearest, RootIs, isqrt, patternOf, rootOf, sigOf, expOf}
 use Rattle.square_root.proofs.Whole.{lead, eleven, shift, half, sig-lt, sig-pos, shifted, N-lo, N-hi, total, root-small, root-le, isqrt-is, four-is, pattern-at}
 use Rattle.square_root.proofs.Values.{value, mag-bits, minus, bits-le}
+use Rattle.square_root.proofs.NotNan.{number}
 use Rattle.square_root.proofs.Near.{gap-above, gap-below, nearer-below, nearer-above, held}
 
 -- ---- the numbers of one root
@@ -212,12 +213,7 @@ written X P =
     let q = (P .r + 1) / 2 in
     let p = (P .h + 1) * 4503599627370496 + q in
     let l : p < 9218868437227405312 = pattern-lt (P .h) q (P .h-hi) (q-hi (P .r) (P .r-hi)) in
-    subst (λ (y : ℕ). T (not (nanBits binary64 y))) (sym (P .pattern))
-    (subst (λ (t : Bool). T (not t)) (sym (nanBits-above binary64 p))
-    (not-T (ltb 9218868437227405312 (p % 9223372036854775808)) (λ (u : T (ltb 9218868437227405312 (p % 9223372036854775808))). over p l (ltb→lt 9218868437227405312 (p % 9223372036854775808) u))))
-  where
-    over : (p : ℕ) → p < 9218868437227405312 → 9218868437227405312 < p % 9223372036854775808 → ⊥
-    over p l m = omega arith
+    subst (λ (y : ℕ). T (not (nanBits binary64 y))) (sym (P .pattern)) (number p (le-of-lt l))
 
 -- ---- the answer
 

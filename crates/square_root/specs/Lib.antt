@@ -1,1 +1,2 @@
 pub mod SquareRoot
+pub mod Guess

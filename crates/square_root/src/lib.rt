@@ -1,7 +1,11 @@
-// The square root, by whole numbers alone.
+// The square root. Floats guess its digits; whole numbers alone decide them.
 ghost use mathlib.Core.Path.{_≡_};
 ghost use Prim.Native.Nat.{_+_, _*_, _^_, _≤_, _<_};
 ghost use Rattle.square_root.specs.SquareRoot.{RootIs, rootOf, patternOf, sigOf, expOf, NextPart};
+
+mod guess;
+
+use crate::guess::Guess;
 
 pub enum Root {
     Is(f64),
@@ -48,6 +52,44 @@ fn digits(w: u64) -> u64
     p.root
 }
 
+// The same digits, from a guess with what is left over: the guess's root where that is the one, else one by one.
+fn settled(w: u64, g: Guess) -> u64
+    requires { ⌜ (g .root * g .root + g .rem ≡ w * 17592186044416 + 144115188075855872) × (g .root < 72057594037927936) ⌝ }
+    ensures { λ r. ⌜ (r * r ≤ w * 17592186044416) × (w * 17592186044416 < (r + 1) * (r + 1)) ⌝ }
+{
+    if g.rem < 144115188075855872 {
+        return digits(w);
+    }
+    if 144115188075855872 + 2 * g.root < g.rem {
+        return digits(w);
+    }
+    g.root
+}
+
+// The same digits from a guess e that may be two too high or one too low; from any other they are found one by one.
+// The number and 2^57 make a * 2^54 + b, and e * e is top * 2^54 + low with low below 2 * 2^54: so a has to be 2 above top. The 2^57 leaves room for a guess that is too high.
+fn quick(w: u64, e: u64) -> u64
+    requires { ⌜ (9007199254740992 ≤ e) × (e < 18014398509481984) ⌝ }
+    ensures { λ r. ⌜ (r * r ≤ w * 17592186044416) × (w * 17592186044416 < (r + 1) * (r + 1)) ⌝ }
+{
+    let s = guess::squared(e);
+    let top = s.top;
+    let low = s.low;
+    let a = w / 1024 + 8;
+    let b = w % 1024 * 17592186044416;
+    if a < top + 2 {
+        return digits(w);
+    }
+    if top + 15 < a {
+        return digits(w);
+    }
+    let g = Guess {
+        root: e,
+        rem: (a - top) * 18014398509481984 + b - low,
+    };
+    settled(w, guess::up(guess::down(guess::down(g))))
+}
+
 fn significand(b: u64) -> u64
     ensures { λ r. ⌜ r ≡ sigOf b ⌝ }
 {
@@ -77,7 +119,7 @@ fn pattern(b: u64) -> u64
     let z = u64::leading_zeros(c) as u64;
     let s = z - (z + k) % 2;
     let h = (k + 1074 - s) / 2 - 22;
-    (h + 1) * 4503599627370496 + (digits(c << s) + 1) / 2
+    (h + 1) * 4503599627370496 + (quick(c << s, guess::estimate(b)) + 1) / 2
 }
 
 // The double nearest the root of x.

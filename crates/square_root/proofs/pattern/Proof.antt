@@ -47,18 +47,21 @@ add-result c = search needs
 mul-result : tie.Need-mul-result
 mul-result c = search needs
 
-shl-digits : tie.Need-shl-digits
-shl-digits c = let z = zeros c in omega arith
+shl-quick : tie.Need-shl-quick
+shl-quick c = let z = zeros c in omega arith
 
-digits-requires : tie.Need-digits-requires
-digits-requires c κs = search needs
+estimate-requires : tie.Need-estimate-requires
+estimate-requires c κs = search needs
+
+quick-requires : tie.Need-quick-requires
+quick-requires c κs = search needs
 
 add-result-2 : tie.Need-add-result-2
 add-result-2 c =
-    let s = c .before .before .significand .result in
+    let s = c .before .before .before .significand .result in
     let z = leadingZeros 64 s in
-    let w = s * 2 ^ shift z (c .before .exponent .result) % 18446744073709551616 in
-    let r : c .digits .result < 18014398509481984 = root-small (c .digits .result) w (mod-lt (s * 2 ^ shift z (c .before .exponent .result)) (pow-pos 64)) (c .digits .ensures .0) in
+    let w = s * 2 ^ shift z (c .before .before .exponent .result) % 18446744073709551616 in
+    let r : c .quick .result < 18014398509481984 = root-small (c .quick .result) w (mod-lt (s * 2 ^ shift z (c .before .before .exponent .result)) (pow-pos 64)) (c .quick .ensures .0) in
     omega arith
 
 add-result-3 : tie.Need-add-result-3
@@ -66,22 +69,22 @@ add-result-3 c = search needs
 
 returns : tie.Need-returns
 returns c =
-    let b = c .before .before .before .args .b in
-    let s = c .before .before .significand .result in
+    let b = c .before .before .before .before .args .b in
+    let s = c .before .before .before .significand .result in
     let z = leadingZeros 64 s in
-    let k = c .before .exponent .result in
+    let k = c .before .before .exponent .result in
     let t = shift z k in
     let w = s * 2 ^ t in
-    let r = c .digits .result in
-    let l = held (c .before) in
-    let zs = zeros (c .before) in
-    let small : s < 9007199254740992 = subst (λ (x : ℕ). x < 9007199254740992) (sym (c .before .before .significand .ensures)) (sig-lt b) in
+    let r = c .quick .result in
+    let l = held (c .before .before) in
+    let zs = zeros (c .before .before) in
+    let small : s < 9007199254740992 = subst (λ (x : ℕ). x < 9007199254740992) (sym (c .before .before .before .significand .ensures)) (sig-lt b) in
     let whole : w % 18446744073709551616 ≡ w = shifted s z k small l in
     let fits : w < 18446744073709551616 = subst (λ (x : ℕ). x < 18446744073709551616) whole (mod-lt w (pow-pos 64)) in
-    let a : r * r ≤ w * 17592186044416 = subst (λ (x : ℕ). r * r ≤ x * 17592186044416) whole (c .digits .ensures .0) in
-    let d : w * 17592186044416 < (r + 1) * (r + 1) = subst (λ (x : ℕ). x * 17592186044416 < (r + 1) * (r + 1)) whole (c .digits .ensures .1) in
+    let a : r * r ≤ w * 17592186044416 = subst (λ (x : ℕ). r * r ≤ x * 17592186044416) whole (c .quick .ensures .0) in
+    let d : w * 17592186044416 < (r + 1) * (r + 1) = subst (λ (x : ℕ). x * 17592186044416 < (r + 1) * (r + 1)) whole (c .quick .ensures .1) in
     let e : sigOf b * 2 ^ (expOf b + 1074) ≡ w * 17592186044416 * 4 ^ half k t =
-    ap (λ (x : ℕ). x * 2 ^ (expOf b + 1074)) (sym (c .before .before .significand .ensures)) ∙ ap (λ (x : ℕ). s * 2 ^ (x + 1074)) (sym (c .before .exponent .ensures)) ∙ total s z k (zs .1) (zs .0) in
+    ap (λ (x : ℕ). x * 2 ^ (expOf b + 1074)) (sym (c .before .before .before .significand .ensures)) ∙ ap (λ (x : ℕ). s * 2 ^ (x + 1074)) (sym (c .before .before .exponent .ensures)) ∙ total s z k (zs .1) (zs .0) in
     sym (pattern-at (sigOf b * 2 ^ (expOf b + 1074)) (w * 17592186044416) (half k t) r e (N-lo s z k small l) (N-hi w fits) a d)
 
 pub pattern-spec : {M : Type 1} → statement M
@@ -98,8 +101,9 @@ pattern-spec =
     sub-h-2
     add-result
     mul-result
-    shl-digits
-    digits-requires
+    shl-quick
+    estimate-requires
+    quick-requires
     add-result-2
     add-result-3
     returns)
