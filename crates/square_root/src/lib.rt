@@ -2,10 +2,9 @@
 ghost use mathlib.Core.Path.{_≡_};
 ghost use Prim.Native.Nat.{_+_, _*_, _^_, _≤_, _<_};
 ghost use Rattle.square_root.specs.SquareRoot.{RootIs, rootOf, patternOf, sigOf, expOf, NextPart};
+ghost use Rattle.square_root.specs.Guess.{Remainder, roundedRoot};
 
 mod guess;
-
-use crate::guess::Guess;
 
 pub enum Root {
     Is(f64),
@@ -52,42 +51,70 @@ fn digits(w: u64) -> u64
     p.root
 }
 
-// The same digits, from a guess with what is left over: the guess's root where that is the one, else one by one.
-fn settled(w: u64, g: Guess) -> u64
-    requires { ⌜ (g .root * g .root + g .rem ≡ w * 17592186044416 + 144115188075855872) × (g .root < 72057594037927936) ⌝ }
-    ensures { λ r. ⌜ (r * r ≤ w * 17592186044416) × (w * 17592186044416 < (r + 1) * (r + 1)) ⌝ }
+// The root of w * 2^42, rounded to 53 digits, from the 54 of `digits`. A tie cannot happen, so adding one before halving is the nearest.
+fn digit_by_digit(w: u64) -> u64
+    ensures { λ r. ⌜ r ≡ roundedRoot w ⌝ }
 {
-    if g.rem < 144115188075855872 {
-        return digits(w);
-    }
-    if 144115188075855872 + 2 * g.root < g.rem {
-        return digits(w);
-    }
-    g.root
+    (digits(w) + 1) / 2
 }
 
-// The same digits from a guess e that may be two too high or one too low; from any other they are found one by one.
-// The number and 2^57 make a * 2^54 + b, and e * e is top * 2^54 + low with low below 2 * 2^54: so a has to be 2 above top. The 2^57 leaves room for a guess that is too high.
-fn quick(w: u64, e: u64) -> u64
-    requires { ⌜ (9007199254740992 ≤ e) × (e < 18014398509481984) ⌝ }
-    ensures { λ r. ⌜ (r * r ≤ w * 17592186044416) × (w * 17592186044416 < (r + 1) * (r + 1)) ⌝ }
+// The same root: m where the remainder shows that it is m, else digit by digit.
+fn settled(w: u64, m: u64, rem: u64) -> u64
+    requires { ⌜ (Remainder w m rem) × (m ≤ 9007199254740992) ⌝ }
+    ensures { λ r. ⌜ r ≡ roundedRoot w ⌝ }
 {
-    let s = guess::squared(e);
+    if rem <= 36028797018963968 - m {
+        return digit_by_digit(w);
+    }
+    if 36028797018963968 + m < rem {
+        return digit_by_digit(w);
+    }
+    m
+}
+
+// The same root, where m is too high: its square less that of m - 1 is 2 * (m - 1) + 1.
+fn lower(w: u64, m: u64, rem: u64) -> u64
+    requires { ⌜ (Remainder w m rem) × (0 < m) × (m ≤ 9007199254740992) × (rem < 36028797018963968) ⌝ }
+    ensures { λ r. ⌜ r ≡ roundedRoot w ⌝ }
+{
+    let less = m - 1;
+    settled(w, less, rem + 2 * less + 1)
+}
+
+// The same root, where m is too low.
+fn higher(w: u64, m: u64, rem: u64) -> u64
+    requires { ⌜ (Remainder w m rem) × (m < 9007199254740992) × (36028797018963968 < rem) ⌝ }
+    ensures { λ r. ⌜ r ≡ roundedRoot w ⌝ }
+{
+    settled(w, m + 1, rem - (2 * m + 1))
+}
+
+// The same root from a guess m, which may be one too low or too high; from any other it is found digit by digit.
+// w * 2^42 + 2^55 is a * 2^52 + b, and m * m is top * 2^52 + low with low below 2 * 2^52: so a has to be 2 above top.
+// Most guesses are right, and a processor that foretells the tests goes on with m while the remainder is still being worked out.
+fn rounded(w: u64, m: u64) -> u64
+    requires { ⌜ (4503599627370496 ≤ m) × (m < 9007199254740992) ⌝ }
+    ensures { λ r. ⌜ r ≡ roundedRoot w ⌝ }
+{
+    let s = guess::squared(m);
     let top = s.top;
     let low = s.low;
     let a = w / 1024 + 8;
-    let b = w % 1024 * 17592186044416;
+    let b = w % 1024 * 4398046511104;
     if a < top + 2 {
-        return digits(w);
+        return digit_by_digit(w);
     }
     if top + 15 < a {
-        return digits(w);
+        return digit_by_digit(w);
     }
-    let g = Guess {
-        root: e,
-        rem: (a - top) * 18014398509481984 + b - low,
-    };
-    settled(w, guess::up(guess::down(guess::down(g))))
+    let rem = (a - top) * 4503599627370496 + b - low;
+    if rem <= 36028797018963968 - m {
+        return lower(w, m, rem);
+    }
+    if 36028797018963968 + m < rem {
+        return higher(w, m, rem);
+    }
+    settled(w, m, rem)
 }
 
 fn significand(b: u64) -> u64
@@ -109,7 +136,7 @@ fn exponent(b: u64) -> u64
 }
 
 // The bit pattern of the root of the double whose pattern is b, which is finite and above zero.
-// The 54th digit rounds: a tie cannot happen, so adding it before halving is the nearest, and a carry runs into the exponent by itself.
+// A carry of the rounding runs into the exponent by itself.
 fn pattern(b: u64) -> u64
     requires { ⌜ (0 < b) × (b < 9218868437227405312) ⌝ }
     ensures { λ r. ⌜ r ≡ patternOf (sigOf b * 2 ^ (expOf b + 1074)) ⌝ }
@@ -119,7 +146,7 @@ fn pattern(b: u64) -> u64
     let z = u64::leading_zeros(c) as u64;
     let s = z - (z + k) % 2;
     let h = (k + 1074 - s) / 2 - 22;
-    (h + 1) * 4503599627370496 + (quick(c << s, guess::estimate(b)) + 1) / 2
+    (h + 1) * 4503599627370496 + rounded(c << s, guess::estimate(b))
 }
 
 // The double nearest the root of x.

@@ -5,8 +5,10 @@ use native.Mathlib.Nat.{mod-lt}
 use native.Mathlib.Omega.{arith}
 use lib.Pow.{pow-pos}
 use lib.Count.{leadingZeros}
-use Rattle.square_root.specs.SquareRoot.{sigOf, expOf}
-use Rattle.square_root.proofs.Whole.{Lead, lead, eleven, shift, half, sig-lt, sig-pos, shifted, N-lo, N-hi, total, root-small, pattern-at}
+use Rattle.square_root.specs.SquareRoot.{isqrt, sigOf, expOf}
+use Rattle.square_root.specs.Guess.{roundedRoot}
+use Rattle.square_root.proofs.Whole.{Lead, lead, eleven, shift, half, sig-lt, sig-pos, shifted, N-lo, N-hi, total, isqrt-is, pattern-at}
+use Rattle.square_root.proofs.Rounds.{rounded-small}
 use Rattle.square_root.proofs.pattern.Statement.{statement}
 use Rattle.square_root.proofs.pattern.Tie as tie
 
@@ -47,25 +49,21 @@ add-result c = search needs
 mul-result : tie.Need-mul-result
 mul-result c = search needs
 
-shl-quick : tie.Need-shl-quick
-shl-quick c = let z = zeros c in omega arith
+shl-rounded : tie.Need-shl-rounded
+shl-rounded c = let z = zeros c in omega arith
 
 estimate-requires : tie.Need-estimate-requires
 estimate-requires c κs = search needs
 
-quick-requires : tie.Need-quick-requires
-quick-requires c κs = search needs
+rounded-requires : tie.Need-rounded-requires
+rounded-requires c κs = search needs
 
 add-result-2 : tie.Need-add-result-2
 add-result-2 c =
     let s = c .before .before .before .significand .result in
-    let z = leadingZeros 64 s in
-    let w = s * 2 ^ shift z (c .before .before .exponent .result) % 18446744073709551616 in
-    let r : c .quick .result < 18014398509481984 = root-small (c .quick .result) w (mod-lt (s * 2 ^ shift z (c .before .before .exponent .result)) (pow-pos 64)) (c .quick .ensures .0) in
+    let w = s * 2 ^ shift (leadingZeros 64 s) (c .before .before .exponent .result) in
+    let r : c .rounded .result ≤ 9007199254740992 = subst (λ (x : ℕ). x ≤ 9007199254740992) (sym (c .rounded .ensures)) (rounded-small (w % 18446744073709551616) (mod-lt w (pow-pos 64))) in
     omega arith
-
-add-result-3 : tie.Need-add-result-3
-add-result-3 c = search needs
 
 returns : tie.Need-returns
 returns c =
@@ -75,17 +73,18 @@ returns c =
     let k = c .before .before .exponent .result in
     let t = shift z k in
     let w = s * 2 ^ t in
-    let r = c .quick .result in
+    let n = w * 17592186044416 in
     let l = held (c .before .before) in
     let zs = zeros (c .before .before) in
     let small : s < 9007199254740992 = subst (λ (x : ℕ). x < 9007199254740992) (sym (c .before .before .before .significand .ensures)) (sig-lt b) in
     let whole : w % 18446744073709551616 ≡ w = shifted s z k small l in
     let fits : w < 18446744073709551616 = subst (λ (x : ℕ). x < 18446744073709551616) whole (mod-lt w (pow-pos 64)) in
-    let a : r * r ≤ w * 17592186044416 = subst (λ (x : ℕ). r * r ≤ x * 17592186044416) whole (c .quick .ensures .0) in
-    let d : w * 17592186044416 < (r + 1) * (r + 1) = subst (λ (x : ℕ). x * 17592186044416 < (r + 1) * (r + 1)) whole (c .quick .ensures .1) in
-    let e : sigOf b * 2 ^ (expOf b + 1074) ≡ w * 17592186044416 * 4 ^ half k t =
+    let r : c .rounded .result ≡ roundedRoot w = c .rounded .ensures ∙ ap roundedRoot whole in
+    let i = isqrt-is 54 n (N-hi w fits) in
+    let e : sigOf b * 2 ^ (expOf b + 1074) ≡ n * 4 ^ half k t =
     ap (λ (x : ℕ). x * 2 ^ (expOf b + 1074)) (sym (c .before .before .before .significand .ensures)) ∙ ap (λ (x : ℕ). s * 2 ^ (x + 1074)) (sym (c .before .before .exponent .ensures)) ∙ total s z k (zs .1) (zs .0) in
-    sym (pattern-at (sigOf b * 2 ^ (expOf b + 1074)) (w * 17592186044416) (half k t) r e (N-lo s z k small l) (N-hi w fits) a d)
+    ap (λ (x : ℕ). (half k t + 1) * 4503599627370496 + x) r
+    ∙ sym (pattern-at (sigOf b * 2 ^ (expOf b + 1074)) n (half k t) (isqrt 54 n) e (N-lo s z k small l) (N-hi w fits) (i .0) (i .1))
 
 pub pattern-spec : {M : Type 1} → statement M
 pattern-spec =
@@ -101,9 +100,8 @@ pattern-spec =
     sub-h-2
     add-result
     mul-result
-    shl-quick
+    shl-rounded
     estimate-requires
-    quick-requires
+    rounded-requires
     add-result-2
-    add-result-3
     returns)

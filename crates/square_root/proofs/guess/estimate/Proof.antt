@@ -28,9 +28,6 @@ nearer-requires-3 c κs = search needs
 float-to-bits-result : tie.Need-float-to-bits-result
 float-to-bits-result c = compared _ _ (c .if1 .taken)
 
-mul-result : tie.Need-mul-result
-mul-result c = search needs
-
 add-result : tie.Need-add-result
 add-result c = search needs
 
@@ -52,7 +49,6 @@ estimate-spec =
     nearer-requires-2
     nearer-requires-3
     float-to-bits-result
-    mul-result
     add-result
     returns
     returns-2)
