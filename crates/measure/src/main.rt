@@ -1,6 +1,10 @@
-// For bench/run alone: `root COUNT`, `chain COUNT` or `axis COUNT` on standard input makes COUNT calls on numbers that vary, and writes what they add up to.
+// For bench/run: a line `root COUNT`, `chain COUNT` or `axis COUNT` makes so many calls, and the answer is what they come to.
+ghost use Prim.Native.Nat.{_≤_};
+ghost use lib.ListN.{length};
+
 mod runs;
 
+use runs::Routine;
 use words::line::gather;
 use words::read::Cursor;
 use words::read::Next;
@@ -10,27 +14,44 @@ use words::read::same;
 use words::write::put;
 use words::write::put_double;
 
-// What COUNT calls of the routine of this name come to; 0.0 for any other name.
+// What the calls come to; 0.0 where there is no such routine.
 fn total(name: &[u8], count: u64) -> f64 {
     if same(name, b"root") {
-        return runs::roots(count);
+        return runs::run(Routine::Root, count);
     }
     if same(name, b"chain") {
-        return runs::chain(count);
+        return runs::run(Routine::Chain, count);
     }
     if same(name, b"axis") {
-        return runs::axes(count);
+        return runs::run(Routine::Axis, count);
     }
     0.0
 }
 
-// The first line's two words.
 fn asked(s: &[u8]) -> f64 {
     let w = next_word(s, Cursor { at: 0 });
-    match next_number(s, Cursor { at: w.stop }) {
-        Next::Is(count, _) => total(&s[w.start..w.stop], count),
+    let start = w.start;
+    let stop = w.stop;
+    match next_number(s, Cursor { at: stop }) {
+        Next::Is(count, _) => total(&s[start..stop], count),
         Next::No => 0.0,
     }
+}
+
+fn asked_front(line: &[u8], n: usize) -> f64
+    requires { ⌜ n ≤ length (now line) ⌝ }
+{
+    asked(&line[..n])
+}
+
+fn write(s: &[u8]) -> bool {
+    io::write_all(1, s)
+}
+
+fn write_front(s: &[u8], n: usize) -> bool
+    requires { ⌜ n ≤ length (now s) ⌝ }
+{
+    write(&s[..n])
 }
 
 fn main() {
@@ -39,9 +60,8 @@ fn main() {
     let got = libc::read(0, &mut block);
     let n = io::count(got, &block);
     let p = gather(&block[..n], 0, &mut line, 0, false);
-    let sum = asked(&line[..p.len]);
-    let mut out = [0u8; 32];
-    let a = put_double(&mut out, 0, sum);
-    let b = put(&mut out, a, b"\n");
-    io::write_all(1, &out[..b]);
+    let sum = asked_front(&line, p.len);
+    let a = put_double(&mut line, 0, sum);
+    let b = put(&mut line, a, b"\n");
+    write_front(&line, b);
 }

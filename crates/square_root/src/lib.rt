@@ -51,6 +51,9 @@ fn digits(w: u64) -> u64
     p.root
 }
 
+// What a remainder has in addition, 2^55, so that it is above zero where a guess is too high.
+const SPARE: u64 = 36028797018963968;
+
 // The root of w * 2^42, rounded to 53 digits, from the 54 of `digits`. A tie cannot happen, so adding one before halving is the nearest.
 fn digit_by_digit(w: u64) -> u64
     ensures { λ r. ⌜ r ≡ roundedRoot w ⌝ }
@@ -63,13 +66,12 @@ fn settled(w: u64, m: u64, rem: u64) -> u64
     requires { ⌜ (Remainder w m rem) × (m ≤ 9007199254740992) ⌝ }
     ensures { λ r. ⌜ r ≡ roundedRoot w ⌝ }
 {
-    if rem <= 36028797018963968 - m {
-        return digit_by_digit(w);
+    if SPARE - m < rem {
+        if rem <= SPARE + m {
+            return m;
+        }
     }
-    if 36028797018963968 + m < rem {
-        return digit_by_digit(w);
-    }
-    m
+    digit_by_digit(w)
 }
 
 // The same root, where m is too high: its square less that of m - 1 is 2 * (m - 1) + 1.
@@ -108,10 +110,10 @@ fn rounded(w: u64, m: u64) -> u64
         return digit_by_digit(w);
     }
     let rem = (a - top) * 4503599627370496 + b - low;
-    if rem <= 36028797018963968 - m {
+    if rem <= SPARE - m {
         return lower(w, m, rem);
     }
-    if 36028797018963968 + m < rem {
+    if SPARE + m < rem {
         return higher(w, m, rem);
     }
     settled(w, m, rem)

@@ -1,0 +1,65 @@
+/* The calls of crates/measure in plain C, with the processor's own root: a line `root COUNT`, `chain COUNT` or `axis COUNT`, the count in hexadecimal, and the
+   answer is what the calls come to. */
+#include <math.h>
+#include <stdbool.h>
+#include <stdint.h>
+#include <stdio.h>
+#include <string.h>
+
+typedef struct { double x, y, z; } Vec3;
+
+/* 2^53 / 1.618.. on, so that all 53 digits vary. */
+static uint64_t next(uint64_t at) {
+    return (at + 5566755282872655u) % 9007199254740992u;
+}
+/* From 1 to below 4. */
+static double number(uint64_t at) {
+    uint64_t bits = at + 4607182418800017408u;
+    double value;
+    memcpy(&value, &bits, sizeof value);
+    return value;
+}
+
+/* The root and the axis rule are not inlined, as those of `measure` are not. */
+static __attribute__((noinline)) bool root(double x, double *y) {
+    if (!(x >= 0.0)) return false;
+    *y = sqrt(x);
+    return true;
+}
+static __attribute__((noinline)) bool unit_axis(Vec3 v, Vec3 *kept) {
+    double s = fabs(v.x) > fabs(v.y) ? fabs(v.x) : fabs(v.y);
+    if (fabs(v.z) > s) s = fabs(v.z);
+    if (!isfinite(v.x) || !isfinite(v.y) || !isfinite(v.z) || s == 0.0) return false;
+    Vec3 w = {v.x / s, v.y / s, v.z / s};
+    double norm = sqrt(w.x * w.x + w.y * w.y + w.z * w.z);
+    if (s <= 1e-12 / norm) return false;
+    *kept = (Vec3){w.x / norm, w.y / norm, w.z / norm};
+    return true;
+}
+
+int main(void) {
+    char name[16];
+    unsigned long long count;
+    if (scanf("%15s %llx", name, &count) != 2) return 1;
+    bool roots = strcmp(name, "root") == 0, chain = strcmp(name, "chain") == 0;
+    uint64_t at = 0;
+    double sum = 1.0;
+    for (unsigned long long i = 0; i < count; i++) {
+        at = next(at);
+        double x = number(at), y;
+        if (roots) {
+            sum += root(x, &y) ? y : 0.0;
+        } else if (chain) {
+            sum = root(x * sum, &y) ? y : 0.0;
+        } else {
+            uint64_t b = next(at);
+            Vec3 kept;
+            at = next(b);
+            sum += unit_axis((Vec3){x, number(b), number(at)}, &kept) ? kept.x : 0.0;
+        }
+    }
+    uint64_t bits;
+    memcpy(&bits, &sum, sizeof bits);
+    printf("%016llx\n", (unsigned long long)bits);
+    return 0;
+}
