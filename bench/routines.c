@@ -20,13 +20,12 @@ static double number(uint64_t at) {
     return value;
 }
 
-/* The root and the axis rule are not inlined, as those of `measure` are not. */
-static __attribute__((noinline)) bool root(double x, double *y) {
+static bool root(double x, double *y) {
     if (!(x >= 0.0)) return false;
     *y = sqrt(x);
     return true;
 }
-static __attribute__((noinline)) bool unit_axis(Vec3 v, Vec3 *kept) {
+static bool unit_axis(Vec3 v, Vec3 *kept) {
     double s = fabs(v.x) > fabs(v.y) ? fabs(v.x) : fabs(v.y);
     if (fabs(v.z) > s) s = fabs(v.z);
     if (!isfinite(v.x) || !isfinite(v.y) || !isfinite(v.z) || s == 0.0) return false;
