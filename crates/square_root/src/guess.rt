@@ -27,15 +27,15 @@ fn nearer(h: f64, y: f64) -> f64 {
     1.5 * y - (h * y) * (y * y)
 }
 
-// The 53 digits of the root of the double whose pattern is b, or their last one is off by one; those of a subnormal are further off. x is that double times a
-// power of 4, from 1/2 to below 2. The first y comes from halving the exponent, 3.5 % off, and each step doubles its digits.
+// The 53 digits of the root of the double whose pattern is b, the last of them off by one at most; those of a subnormal are further off.
+// x is that double times a power of 4, from 1/2 to below 2. Halving its pattern gives the first y, off by some 3 %, and each step doubles the digits.
 pub fn estimate(b: u64) -> u64
     ensures { λ r. ⌜ (4503599627370496 ≤ r) × (r < 9007199254740992) ⌝ }
 {
     let v = b % 9007199254740992 + 4602678819172646912;
     let x = f64::from_bits(v);
     let h = x * 0.5;
-    let y0 = f64::from_bits(6910469410427058089 - v / 2);
+    let y0 = f64::from_bits(0x5fe6eb50c7b537a9 - v / 2);
     let y = nearer(h, nearer(h, nearer(h, y0)));
     let s = x * y;
     let t = s + (0.5 * y) * (x - s * s);

@@ -74,7 +74,7 @@ fn settled(w: u64, m: u64, rem: u64) -> u64
     digit_by_digit(w)
 }
 
-// The same root, where m is too high: its square less that of m - 1 is 2 * (m - 1) + 1.
+// The same root, where m is too high. The square of m - 1 has 2 * (m - 1) + 1 less.
 fn lower(w: u64, m: u64, rem: u64) -> u64
     requires { ⌜ (Remainder w m rem) × (0 < m) × (m ≤ 9007199254740992) × (rem < 36028797018963968) ⌝ }
     ensures { λ r. ⌜ r ≡ roundedRoot w ⌝ }
@@ -83,7 +83,7 @@ fn lower(w: u64, m: u64, rem: u64) -> u64
     settled(w, less, rem + 2 * less + 1)
 }
 
-// The same root, where m is too low.
+// The same root, where m is too low. The square of m + 1 has 2 * m + 1 more.
 fn higher(w: u64, m: u64, rem: u64) -> u64
     requires { ⌜ (Remainder w m rem) × (m < 9007199254740992) × (36028797018963968 < rem) ⌝ }
     ensures { λ r. ⌜ r ≡ roundedRoot w ⌝ }
