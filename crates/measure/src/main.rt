@@ -1,4 +1,5 @@
-// For bench/run: a line `root COUNT`, `chain COUNT` or `axis COUNT` makes so many calls, and the answer is what they come to.
+// For bench/run: a line `root COUNT`, `chain COUNT` or `axis COUNT` makes so many calls, and the answer is what they come to; to another word, or where the
+// count is none, it is `error`.
 ghost use Prim.Native.Nat.{_≤_};
 ghost use lib.ListN.{length};
 
@@ -14,44 +15,52 @@ use words::read::same;
 use words::write::put;
 use words::write::put_double;
 
-// What the calls come to; 0.0 where there is no such routine.
-fn total(name: &[u8], count: u64) -> f64 {
-    if same(name, b"root") {
-        return runs::run(Routine::Root, count);
-    }
-    if same(name, b"chain") {
-        return runs::run(Routine::Chain, count);
-    }
-    if same(name, b"axis") {
-        return runs::run(Routine::Axis, count);
-    }
-    0.0
+pub enum Sum {
+    Is(f64),
+    No,
 }
 
-fn asked(s: &[u8]) -> f64 {
+// What the calls come to, where there is such a routine.
+fn total(name: &[u8], count: u64) -> Sum {
+    if same(name, b"root") {
+        return Sum::Is(runs::run(Routine::Root, count));
+    }
+    if same(name, b"chain") {
+        return Sum::Is(runs::run(Routine::Chain, count));
+    }
+    if same(name, b"axis") {
+        return Sum::Is(runs::run(Routine::Axis, count));
+    }
+    Sum::No
+}
+
+fn asked(s: &[u8]) -> Sum {
     let w = next_word(s, Cursor { at: 0 });
     let start = w.start;
     let stop = w.stop;
     match next_number(s, Cursor { at: stop }) {
         Next::Is(count, _) => total(&s[start..stop], count),
-        Next::No => 0.0,
+        Next::No => Sum::No,
     }
 }
 
-fn asked_front(line: &[u8], n: usize) -> f64
-    requires { ⌜ n ≤ length (now line) ⌝ }
+fn put_sum(out: &mut [u8], t: Sum) -> usize
+    requires { ⌜ 65536 ≤ length (now out) ⌝ }
+    ensures { λ r. ⌜ r ≤ 65536 ⌝ }
 {
-    asked(&line[..n])
+    match t {
+        Sum::Is(sum) => {
+            let a = put_double(out, 0, sum);
+            put(out, a, b"\n")
+        }
+        Sum::No => put(out, 0, b"error\n"),
+    }
 }
 
-fn write(s: &[u8]) -> bool {
-    io::write_all(1, s)
-}
-
-fn write_front(s: &[u8], n: usize) -> bool
+fn front(s: &[u8], n: usize) -> &[u8]
     requires { ⌜ n ≤ length (now s) ⌝ }
 {
-    write(&s[..n])
+    &s[..n]
 }
 
 fn main() {
@@ -60,8 +69,7 @@ fn main() {
     let got = libc::read(0, &mut block);
     let n = io::count(got, &block);
     let p = gather(&block[..n], 0, &mut line, 0, false);
-    let sum = asked_front(&line, p.len);
-    let a = put_double(&mut line, 0, sum);
-    let b = put(&mut line, a, b"\n");
-    write_front(&line, b);
+    let t = asked(front(&line, p.len));
+    let end = put_sum(&mut line, t);
+    io::write_all(1, front(&line, end));
 }

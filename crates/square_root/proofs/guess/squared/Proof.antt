@@ -3,7 +3,6 @@ use mathlib.Core.Path.{_≡_, ap, _∙_}
 use Prim.Native.Nat.{ℕ, _+_, _*_, _/_, _%_, _≤_, _<_}
 use native.Mathlib.Nat.{mul-le-mul}
 use native.Mathlib.Omega.{arith}
-use Rattle.square_root.specs.Guess.{SquareOf}
 use Rattle.square_root.proofs.guess.squared.Statement.{statement}
 use Rattle.square_root.proofs.guess.squared.Tie as tie
 
