@@ -1,18 +1,18 @@
--- The builder's checks (document 01, "Refusal numbers" 1 to 7). Definitions only.
+-- The builder's checks (document 01, "Refusal numbers" 1 to 7; document 02, item 9, refusal 8). Definitions only.
 use mathlib.Core.Bool.{Bool, true, false, not, _&&_}
 use mathlib.Core.List.{List}
 use mathlib.Core.Path.{_≡_}
 use Prim.Native.Nat.{ℕ, _+_, _*_, _≤_}
 use lib.Dec.{eqb, ltb}
 use lib.ListN.{length, take, drop}
-use lib.Ieee.{Float}
-use Rattle.numbers.specs.Double.{allFinite}
+use lib.Ieee.{Float, lt}
+use Rattle.numbers.specs.Double.{0·0, allFinite}
 use Rattle.refusals.specs.Refusals.{lowest, namedOf, plainOf, orElse}
 use Rattle.refusals.specs.declared.Verdict.{Verdict}
 use Rattle.slots.specs.Slots.{vec3At, frameAt}
 use Rattle.arm.specs.Joint.{notUnit}
 use Rattle.builder.specs.Axis.{keptAxis}
-use Rattle.arm.specs.Model.{kindOf, badParent, badKind}
+use Rattle.arm.specs.Model.{kindOf, linkOf, badParent, badKind}
 use Rattle.builder.specs.declared.axis.Axis.{Axis}
 use Rattle.builder.specs.declared.axis.Axis.the-variants.{Of, Bad}
 
@@ -42,6 +42,10 @@ badRow size s i = not (allFinite (take size (drop (i * size) s)))
 unfoldable pub badRotation : List Float → ℕ → Bool
 badRotation origins j = notUnit (frameAt origins (j * 7) .rotation)
 
+-- 8: link l's mass is below zero; +0.0 and -0.0 are not
+unfoldable pub badMass : List Float → ℕ → Bool
+badMass links l = lt (linkOf links l .mass) 0·0
+
 -- ---- all of them, in the order of the table
 
 -- 6 names the lowest joint with a bad origin, or else the lowest link
@@ -51,7 +55,8 @@ listsVerdict n parents kinds origins axes links =
     (orElse (namedOf 4 (lowest (badKind kinds) n))
     (orElse (namedOf 5 (lowest (badAxis kinds axes) n))
     (orElse (orElse (namedOf 6 (lowest (badRow 7 origins) n)) (namedOf 6 (lowest (badRow 10 links) (n + 1))))
-    (namedOf 7 (lowest (badRotation origins) n)))))
+    (orElse (namedOf 7 (lowest (badRotation origins) n))
+    (namedOf 8 (lowest (badMass links) (n + 1)))))))
 
 unfoldable pub verdictOf : ℕ → List ℕ → List ℕ → List Float → List Float → List Float → Verdict
 verdictOf n parents kinds origins axes links =

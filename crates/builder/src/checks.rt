@@ -1,10 +1,10 @@
-// The builder's checks: refusals 1 to 7.
+// The builder's checks: refusals 1 to 8.
 ghost use mathlib.Core.Path.{_≡_};
 ghost use Prim.Native.Nat.{_+_, _*_, _≤_, _<_};
 ghost use lib.ListN.{length};
 ghost use Rattle.refusals.specs.Refusals.{lowest};
 ghost use Rattle.arm.specs.Model.{badParent, badKind};
-ghost use Rattle.builder.specs.Checks.{Sized, sizedBy, axisOf, badAxis, badRow, badRotation, listsVerdict, verdictOf};
+ghost use Rattle.builder.specs.Checks.{Sized, sizedBy, axisOf, badAxis, badRow, badRotation, badMass, listsVerdict, verdictOf};
 use crate::axis;
 use crate::axis::Axis;
 use arm::joint;
@@ -107,7 +107,22 @@ fn bad_rotation(n: usize, origins: &[f64]) -> Place
     Place::Nothing
 }
 
-// Refusals 3 to 7: each check is made, and the first that refuses counts.
+// The lowest of n links whose mass is below zero, which neither zero is.
+fn bad_mass(n: usize, links: &[f64]) -> Place
+    requires { ⌜ n * 10 ≤ length (now links) ⌝ }
+    ensures { λ r. ⌜ r ≡ lowest (badMass (now (links .entry))) n ⌝ }
+{
+    let mut l: usize = 0;
+    while l < n {
+        if links[l * 10] < 0.0 {
+            return Place::At(l);
+        }
+        l += 1;
+    }
+    Place::Nothing
+}
+
+// Refusals 3 to 8: each check is made, and the first that refuses counts.
 fn judged_lists<'a>(
     n: usize,
     parents: &'a [u64],
@@ -125,11 +140,10 @@ fn judged_lists<'a>(
     let origin6 = refusals::named(6, bad_row(n, 7, origins));
     let link6 = refusals::named(6, bad_row(n + 1, 10, links));
     let v7 = refusals::named(7, bad_rotation(n, origins));
+    let v8 = refusals::named(8, bad_mass(n + 1, links));
     let v6 = refusals::first(origin6, link6);
-    refusals::first(
-        v3,
-        refusals::first(v4, refusals::first(v5, refusals::first(v6, v7))),
-    )
+    let numbers = refusals::first(v6, refusals::first(v7, v8));
+    refusals::first(v3, refusals::first(v4, refusals::first(v5, numbers)))
 }
 
 // The smallest refusal number that applies.

@@ -42,6 +42,15 @@ bad-rotation-requires c κs = search needs
 named-requires-6 : tie.Need-named-requires-6
 named-requires-6 c κs = search needs
 
+add-bad-mass : tie.Need-add-bad-mass
+add-bad-mass c = search needs
+
+bad-mass-requires : tie.Need-bad-mass-requires
+bad-mass-requires c κs = search needs
+
+named-requires-7 : tie.Need-named-requires-7
+named-requires-7 c κs = search needs
+
 first-requires : tie.Need-first-requires
 first-requires c κs = search needs
 
@@ -57,21 +66,28 @@ first-requires-4 c κs = search needs
 first-requires-5 : tie.Need-first-requires-5
 first-requires-5 c κs = search needs
 
+first-requires-6 : tie.Need-first-requires-6
+first-requires-6 c κs = search needs
+
 returns : tie.Need-returns
 unfolding listsVerdict
 returns c =
-    let v7 = c .before .before .before .before .before in
+    let v8 = c .before .before .before .before .before .before in
+    let v7 = v8 .before .before in
     let link6 = v7 .before .before in
     let origin6 = link6 .before .before in
     let v5 = origin6 .before .before in
     let v4 = v5 .before .before in
     let v3 = v4 .before .before in
     rw (
-      c .first5 .ensures,
-      c .before .first4 .ensures,
-      c .before .before .first3 .ensures,
-      c .before .before .before .first2 .ensures,
-      c .before .before .before .before .first .ensures,
+      c .first6 .ensures,
+      c .before .first5 .ensures,
+      c .before .before .first4 .ensures,
+      c .before .before .before .first3 .ensures,
+      c .before .before .before .before .first2 .ensures,
+      c .before .before .before .before .before .first .ensures,
+      v8 .named7 .ensures,
+      v8 .before .bad-mass .ensures,
       v7 .named6 .ensures,
       v7 .before .bad-rotation .ensures,
       link6 .named5 .ensures,
@@ -103,9 +119,13 @@ judged-lists-spec =
     named-requires-5
     bad-rotation-requires
     named-requires-6
+    add-bad-mass
+    bad-mass-requires
+    named-requires-7
     first-requires
     first-requires-2
     first-requires-3
     first-requires-4
     first-requires-5
+    first-requires-6
     returns)
