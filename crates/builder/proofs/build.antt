@@ -1,2 +1,3 @@
+pub mod Masses
 pub mod Passed
 pub mod Threes

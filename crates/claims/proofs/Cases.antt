@@ -1,4 +1,4 @@
--- The twelve cases, computed. Assumes nothing.
+-- The twelve cases and the masses, computed. Assumes nothing.
 use mathlib.Core.List.{_++_}
 use mathlib.Core.Path.{refl, ap₂}
 use Prim.{Unit}
@@ -49,7 +49,7 @@ use Rattle.composites.specs.Plan as sizes
 use Rattle.matrix_columns.specs.Walk as walk
 use Rattle.forward_dynamics.specs.Checks as inputs
 use Rattle.forward_dynamics.specs.ForwardDynamics as dynamics
-use Rattle.claims.specs.Cases.{twelve, Hold}
+use Rattle.claims.specs.Cases.{twelve, masses, Hold}
 
 -- ---- what computes: to unfold one of these is to unfold all that its line names
 
@@ -62,7 +62,7 @@ unfolding frame.productOf frame.turnOf frame.slideOf operators.wrenchToParent op
 open-spatial = Unit {0}
 
 open-arm : Type 0
-unfolding refusals.scan refusals.lowest refusals.found refusals.namedOf refusals.plainOf refusals.orElse build.byteSlots build.doubleSlots build.axisSlot build.axisSlots build.modelOf build.builtOf builder.sizedBy builder.axisOf builder.badAxis builder.badRow builder.badRotation builder.listsVerdict builder.verdictOf joint.motionBy axis.normedAxis axis.scaledAxis axis.unitAxis axis.keptAxis joint.notUnit joint.turnedOf joint.frameOf model.emptyModel model.motionOf model.jointOf model.linkOf model.wildJoint model.wildOf topology.activesOf topology.valueOf topology.holdsOf topology.activeJoint
+unfolding refusals.scan refusals.lowest refusals.found refusals.namedOf refusals.plainOf refusals.orElse build.byteSlots build.doubleSlots build.axisSlot build.axisSlots build.modelOf build.builtOf builder.sizedBy builder.axisOf builder.badAxis builder.badRow builder.badRotation builder.badMass builder.listsVerdict builder.verdictOf joint.motionBy axis.normedAxis axis.scaledAxis axis.unitAxis axis.keptAxis joint.notUnit joint.turnedOf joint.frameOf model.emptyModel model.motionOf model.jointOf model.linkOf model.wildJoint model.wildOf topology.activesOf topology.valueOf topology.holdsOf topology.activeJoint
 open-arm = Unit {0}
 
 open-calls : Type 0
@@ -94,3 +94,7 @@ nine-to-twelve = refl
 pub cases : Hold twelve
 unfolding twelve
 cases = ap₂ _++_ one-to-eight nine-to-twelve
+
+pub mass-cases : Hold masses
+unfolding masses open-numbers open-spatial open-arm
+mass-cases = refl

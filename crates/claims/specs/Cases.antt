@@ -1,4 +1,4 @@
--- The twelve small cases of document 01: what is asked, by the definitions of the calls, and what is to be told. Definitions only.
+-- The twelve small cases of document 01, and the masses of document 02, item 9: what is asked, by the definitions of the calls, and what is to be told. Definitions only.
 -- "Unless said: identity origins and root rotation, fixed root, other numbers zero."
 use mathlib.Core.List.{List, [], _∷_, _++_, map}
 use mathlib.Core.Path.{_≡_}
@@ -20,6 +20,7 @@ use Rattle.spatial.specs.Twist.{zerosOf}
 use Rattle.slots.specs.Slots.{vec3At}
 use Rattle.builder.specs.Build.{builtOf}
 use Rattle.arm.specs.Joint.{components}
+use Rattle.arm.specs.Model.{linkOf}
 use Rattle.builder.specs.declared.build.Built.{Built}
 use Rattle.calls.specs.Position.{Result, wholeOf}
 use Rattle.calls.specs.declared.position.Outcome.{Outcome}
@@ -36,7 +37,7 @@ use Rattle.forward_dynamics.specs.declared.forward_dynamics.Mode.the-variants.{
 
 pub data Told : Type 0 where
   given : List ℕ → Told
-  -- by document 01's number, what is named, and what the numbers then are
+  -- by the refusal's number, what is named, and what the numbers then are
   refused : ℕ → Place → List ℕ → Told
   -- no root, or a calculation that has not ended
   unanswered : Told
@@ -108,6 +109,13 @@ twoSlides parent a b = builtOf 2 (0 ∷ parent ∷ []) (1 ∷ 1 ∷ []) (origin 
 abbrev keptAxis : List Float → Told
 keptAxis a = let b = oneJoint 1 a (weight 0·0) in ofVerdict (b .verdict) (components (vec3At (b .model .axes) 0))
 
+-- the masses of the root's link and of link 1, as they are kept
+abbrev keptMasses : Float → Float → Told
+keptMasses a b =
+    let built = builtOf 1 (0 ∷ []) (1 ∷ []) origin z (weight a ++ weight b) in
+    let links = built .model .links in
+    ofVerdict (built .verdict) (linkOf links 0 .mass ∷ linkOf links 1 .mass ∷ [])
+
 -- lent to be written: ones, so that what is told was written
 abbrev ones : ℕ → List Float
 ones n = replicate n 1·0
@@ -156,6 +164,15 @@ twelve =
     ∷ (fixedMatrix (twoSlides 1 huge huge), refused 37 Nothing (replicate 4 0x3ff0_0000_0000_0000))
     -- 12: all six +0.0
     ∷ (forward (Floating upright zerosOf) (builtOf 0 [] [] [] [] (link 4·0 1·0 1·0 1·0)) (zeros 5 ++ 4·0 ⊗ gravity ∷ []), given (replicate 6 0))
+    ∷ []
+
+-- document 02, item 9: -3 on a link, and on the root's link too; -0.0 and +0.0 stay allowed
+unfoldable pub masses : List (Told × Told)
+masses =
+    let -3·0 = bits 0xc008_0000_0000_0000 in
+    (keptMasses 2·0 -3·0, refused 8 (At 1) (0 ∷ 0 ∷ []))
+    ∷ (keptMasses -3·0 -3·0, refused 8 (At 0) (0 ∷ 0 ∷ []))
+    ∷ (keptMasses (bits 0x8000_0000_0000_0000) 0·0, given (0x8000_0000_0000_0000 ∷ 0 ∷ []))
     ∷ []
 
 -- each is told as expected
