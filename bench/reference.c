@@ -488,10 +488,12 @@ static inline Six motion_of(const Model *m, uint64_t j) {
 }
 static void begin_forward(const Model *m, const Call *c, ForwardJoint *w, ForwardRoot *root, Six root_velocity) {
     Six root_load = {{0.0, 0.0, 0.0}, {0.0, 0.0, 0.0}};
+    bool any[33] = {false};
     for (uint64_t i = 0; i < c->links.length; i++) {
-        Six load = gather(c->loads.items + 6 * i);
-        if (c->links.items[i] == 0) root_load = load;
-        else w[c->links.items[i] - 1].load = load;
+        uint64_t link = c->links.items[i];
+        Six load = gather(c->loads.items + 6 * i), *sum = link == 0 ? &root_load : &w[link - 1].load;
+        *sum = any[link] ? add6(*sum, load) : load;
+        any[link] = true;
     }
     root->inertia = rigid_body_inertia(&m->links[0]);
     root->bias_force = add6(force_cross(root_velocity, apply6(&root->inertia, root_velocity)), root_load);

@@ -1,5 +1,5 @@
-/* The calls of crates/measure in plain C, with the processor's own root: a line `root COUNT`, `chain COUNT` or `axis COUNT`, the count in hexadecimal, and the
-   answer is what the calls come to. */
+/* The calls of crates/measure in plain C, with the processor's own root: a line `root COUNT`, `chain COUNT`, `axis COUNT` or `loads COUNT`, the count in
+   hexadecimal, and the answer is what the calls come to. */
 #include <math.h>
 #include <stdbool.h>
 #include <stdint.h>
@@ -36,6 +36,38 @@ static bool unit_axis(Vec3 v, Vec3 *kept) {
     return true;
 }
 
+/* Six numbers to a load. A joint's stand at 95 j + 75 of the workspace, the root's are handed back. */
+enum { COUNT = 2048, NUMBERS = 6 * COUNT, ROOM = 96 * 32 + 64, JOINT = 95, LOAD = 75 };
+
+static void prepare_indexed_loads(uint64_t n, const uint64_t *loaded, uint64_t count, const double *loads, double *ws, double *root) {
+    bool any[33] = {false};
+    for (uint64_t j = 0; j < n; j++) memset(ws + JOINT * j + LOAD, 0, 6 * sizeof *ws);
+    memset(root, 0, 6 * sizeof *root);
+    for (uint64_t k = 0; k < count; k++) {
+        uint64_t link = loaded[k];
+        if (link > n) continue;
+        double *sum = link == 0 ? root : ws + JOINT * (link - 1) + LOAD;
+        for (int i = 0; i < 6; i++) sum[i] = any[link] ? sum[i] + loads[6 * k + i] : loads[6 * k + i];
+        any[link] = true;
+    }
+}
+static double passes(uint64_t count) {
+    static uint64_t loaded[COUNT];
+    static double loads[NUMBERS], ws[ROOM];
+    uint64_t at = 0;
+    double sum = 1.0, root[6];
+    for (int k = 0; k < COUNT; k++) loaded[k] = (at = next(at)) % 33;
+    for (int k = 0; k < NUMBERS; k++) loads[k] = 1.0;
+    at = 0;
+    for (uint64_t i = 0; i < count; i++) {
+        at = next(at);
+        loads[at % NUMBERS] = number(at);
+        prepare_indexed_loads(32, loaded, COUNT, loads, ws, root);
+        sum += root[5] + ws[at % 32 * JOINT + LOAD];
+    }
+    return sum;
+}
+
 int main(void) {
     char name[16];
     unsigned long long count;
@@ -43,6 +75,10 @@ int main(void) {
     bool roots = strcmp(name, "root") == 0, chain = strcmp(name, "chain") == 0;
     uint64_t at = 0;
     double sum = 1.0;
+    if (strcmp(name, "loads") == 0) {
+        sum = passes(count);
+        count = 0;
+    }
     for (unsigned long long i = 0; i < count; i++) {
         at = next(at);
         double x = number(at), y;

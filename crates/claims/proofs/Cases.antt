@@ -1,4 +1,4 @@
--- The twelve cases and the masses, computed. Assumes nothing.
+-- The twelve cases, the masses and the loads, computed. Assumes nothing.
 use mathlib.Core.List.{_++_}
 use mathlib.Core.Path.{refl, ap₂}
 use Prim.{Unit}
@@ -49,7 +49,7 @@ use Rattle.composites.specs.Plan as sizes
 use Rattle.matrix_columns.specs.Walk as walk
 use Rattle.forward_dynamics.specs.Checks as inputs
 use Rattle.forward_dynamics.specs.ForwardDynamics as dynamics
-use Rattle.claims.specs.Cases.{twelve, masses, Hold}
+use Rattle.claims.specs.Cases.{twelve, masses, loads as loads-cases, Hold}
 
 -- ---- what computes: to unfold one of these is to unfold all that its line names
 
@@ -78,7 +78,7 @@ unfolding inertia.fromBlocks inertia.rigidOf inertia.inertiaApply inertia.signed
 open-articulated = Unit {0}
 
 open-dynamics : Type 0
-unfolding firsts.parentTwist firsts.putFirst firsts.firstAt firsts.firstVisit visits.outcomeOf visits.passVisit visits.visitOf loads.loadTo loads.loadsTo plan.planBy roots.putRoot roots.begunOf roots.baseAt roots.keptBase roots.floatingRoot roots.rootVisit terms.termAt terms.putTerm eliminations.newTerm eliminations.unlessRefused eliminations.keptTerm eliminations.eliminated seconds.propagated seconds.secondVisit thirds.carriedAt thirds.keptJoint thirds.solvedJoint thirds.thirdVisit inputs.wildNumber inputs.leastTo inputs.motionVerdict inputs.forcesVerdict inputs.loadsVerdict inputs.rootVerdict inputs.restVerdict inputs.inputsVerdict dynamics.forwardDynamics
+unfolding firsts.parentTwist firsts.putFirst firsts.firstAt firsts.firstVisit visits.outcomeOf visits.passVisit visits.visitOf loads.listedTo loads.addedTo loads.sumOf loads.loadsTo plan.planBy roots.putRoot roots.begunOf roots.baseAt roots.keptBase roots.floatingRoot roots.rootVisit terms.termAt terms.putTerm eliminations.newTerm eliminations.unlessRefused eliminations.keptTerm eliminations.eliminated seconds.propagated seconds.secondVisit thirds.carriedAt thirds.keptJoint thirds.solvedJoint thirds.thirdVisit inputs.wildNumber inputs.lowerOf inputs.lowerIf inputs.leastTo inputs.wildLoad inputs.motionVerdict inputs.forcesVerdict inputs.loadsVerdict inputs.rootVerdict inputs.restVerdict inputs.inputsVerdict dynamics.forwardDynamics
 open-dynamics = Unit {0}
 
 -- ---- in two parts, since the steps of one computation are limited
@@ -98,3 +98,7 @@ cases = ap₂ _++_ one-to-eight nine-to-twelve
 pub mass-cases : Hold masses
 unfolding masses open-numbers open-spatial open-arm
 mass-cases = refl
+
+pub load-cases : Hold loads-cases
+unfolding loads-cases open-numbers open-spatial open-arm open-calls open-articulated open-dynamics
+load-cases = refl

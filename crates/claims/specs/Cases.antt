@@ -1,4 +1,4 @@
--- The twelve small cases of document 01, and the masses of document 02, item 9: what is asked, by the definitions of the calls, and what is to be told. Definitions only.
+-- The twelve small cases of document 01, and of document 02 the masses of item 9 and the loads of item 3: what is asked, by the definitions of the calls, and what is to be told. Definitions only.
 -- "Unless said: identity origins and root rotation, fixed root, other numbers zero."
 use mathlib.Core.List.{List, [], _∷_, _++_, map}
 use mathlib.Core.Path.{_≡_}
@@ -17,6 +17,7 @@ use Rattle.refusals.specs.declared.Verdict.{Verdict}
 use Rattle.refusals.specs.declared.Verdict.the-variants.{Fine}
 use Rattle.refusals.specs.declared.Verdict.the-variants as verdict
 use Rattle.spatial.specs.Twist.{zerosOf}
+use Rattle.spatial.specs.Wrench.{vectorOf}
 use Rattle.slots.specs.Slots.{vec3At}
 use Rattle.builder.specs.Build.{builtOf}
 use Rattle.arm.specs.Joint.{components}
@@ -29,6 +30,7 @@ use Rattle.calls.specs.declared.position.Outcome.the-variants as outcome
 use Rattle.mass_matrix.specs.MassMatrix.{massMatrix}
 use Rattle.mass_matrix.specs.declared.mass_matrix.Mode.the-variants as matrix
 use Rattle.forward_dynamics.specs.ForwardDynamics.{forwardDynamics}
+use Rattle.forward_slots.specs.Loads.{loadOf}
 use Rattle.forward_visits.specs.Inputs.{inputsBy}
 use Rattle.forward_dynamics.specs.declared.forward_dynamics.Mode.{Mode}
 use Rattle.forward_dynamics.specs.declared.forward_dynamics.Mode.the-variants.{Fixed, Floating}
@@ -127,10 +129,13 @@ output r = ofOutcome (r .0 .outcome) (r .2)
 abbrev fixedMatrix : Built → Told
 fixedMatrix b = let n = b .model .n in output (wholeOf (massMatrix matrix.Fixed (b .model) (zeros n)) (ones (n * 32 + 64 + n * n)) (ones (n * n)))
 
-abbrev forward : Mode → Built → List Float → Told
-forward mode b forces =
+abbrev loadedForward : Mode → Built → List Float → List ℕ → List Float → Told
+loadedForward mode b forces loaded loads =
     let n = b .model .n in
-    output (wholeOf (forwardDynamics mode (b .model) (inputsBy (zeros n) (zeros n) forces [] [])) (ones (n * 96 + 64)) (ones (length forces)))
+    output (wholeOf (forwardDynamics mode (b .model) (inputsBy (zeros n) (zeros n) forces loaded loads)) (ones (n * 96 + 64)) (ones (length forces)))
+
+abbrev forward : Mode → Built → List Float → Told
+forward mode b forces = loadedForward mode b forces [] []
 
 abbrev upright : Quaternion
 upright = record { w = 1·0; u = vecBy (λ i. 0·0) }
@@ -173,6 +178,32 @@ masses =
     (keptMasses 2·0 -3·0, refused 8 (At 1) (0 ∷ 0 ∷ []))
     ∷ (keptMasses -3·0 -3·0, refused 8 (At 0) (0 ∷ 0 ∷ []))
     ∷ (keptMasses (bits 0x8000_0000_0000_0000) 0·0, given (0x8000_0000_0000_0000 ∷ 0 ∷ []))
+    ∷ []
+
+-- a load along z; what link 1 has of a list; case 9 with loads on link 1
+abbrev alongZ : Float → List Float
+alongZ f = zeros 5 ++ f ∷ []
+
+abbrev onLink : List ℕ → List Float → Told
+onLink loaded loads = given (patterns (vectorOf (loadOf loaded loads 1)))
+
+abbrev pulled : List Float → Told
+pulled loads = loadedForward (Fixed upright) (oneSlide 2·0) (0·0 ∷ []) (1 ∷ 1 ∷ []) loads
+
+-- document 02, item 3
+unfoldable pub loads : List (Told × Told)
+loads =
+    let -0·0 = bits 0x8000_0000_0000_0000 in
+    let 2^53 = bits 0x4340_0000_0000_0000 in
+    -- without one zero; one as it stands, -0.0 too; the root's is another link
+    (onLink [] [], given (replicate 6 0))
+    ∷ (onLink (0 ∷ 1 ∷ []) (alongZ 3·0 ++ replicate 6 -0·0), given (replicate 6 0x8000_0000_0000_0000))
+    -- in list order: 2^53, 1 and 1 come to 2^53
+    ∷ (onLink (1 ∷ 1 ∷ 1 ∷ []) (alongZ 2^53 ++ alongZ 1·0 ++ alongZ 1·0), given (replicate 5 0 ++ 0x4340_0000_0000_0000 ∷ []))
+    -- a gripper's 3 and a cable's 4: -7/2 - 9.80665
+    ∷ (pulled (alongZ 3·0 ++ alongZ 4·0), given (0xc02a_9d01_3a92_a305 ∷ []))
+    -- a sum that overflows: what the visits find
+    ∷ (pulled (alongZ huge ++ alongZ huge), refused 36 (At 0) (0x3ff0_0000_0000_0000 ∷ []))
     ∷ []
 
 -- each is told as expected

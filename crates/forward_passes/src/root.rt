@@ -44,8 +44,7 @@ pub fn begin<'a>(
     if at != 0 {
         return;
     }
-    loads::put_loads(n, loaded, loads, ws);
-    let load = loads::load_at(loaded, loads, 0);
+    let load = loads::prepare_indexed_loads(n, loaded, loads, ws);
     put_root(n, velocity, links, load, ws);
 }
 

@@ -1,8 +1,9 @@
-// For bench/run: a line `root COUNT`, `chain COUNT` or `axis COUNT` makes so many calls, and the answer is what they come to; to another word, or where the
-// count is none, it is `error`.
+// For bench/run: a line `root COUNT`, `chain COUNT`, `axis COUNT` or `loads COUNT` makes so many calls, and the answer is what they come to; to another word, or
+// where the count is none, it is `error`.
 ghost use Prim.Native.Nat.{_≤_};
 ghost use lib.ListN.{length};
 
+mod loads;
 mod runs;
 
 use runs::Routine;
@@ -30,6 +31,9 @@ fn total(name: &[u8], count: u64) -> Sum {
     }
     if same(name, b"axis") {
         return Sum::Is(runs::run(Routine::Axis, count));
+    }
+    if same(name, b"loads") {
+        return Sum::Is(loads::run(count));
     }
     Sum::No
 }

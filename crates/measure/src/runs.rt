@@ -21,12 +21,12 @@ struct Stand {
 }
 
 // 2^53 / 1.618.. on, so that all 53 digits vary.
-fn next(at: u64) -> u64 {
+pub fn next(at: u64) -> u64 {
     (at % 9007199254740992 + 5566755282872655) % 9007199254740992
 }
 
 // From 1 to below 4: a root's digits for both kinds of exponent.
-fn number(at: u64) -> f64 {
+pub fn number(at: u64) -> f64 {
     double_of(at % 9007199254740992 + 4607182418800017408)
 }
 

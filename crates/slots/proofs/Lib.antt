@@ -1,3 +1,4 @@
 pub mod Lengths
 pub mod Blocks
 pub mod Sets
+pub mod Puts

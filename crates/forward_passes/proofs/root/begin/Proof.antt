@@ -8,11 +8,8 @@ returns : tie.Need-returns
 unfolding begunOf
 returns c = simp (ne-eqb _ _ (c .if1 .taken))
 
-put-loads-requires : tie.Need-put-loads-requires
-put-loads-requires c κs = search needs
-
-load-at-requires : tie.Need-load-at-requires
-load-at-requires c κs = search needs
+prepare-indexed-loads-requires : tie.Need-prepare-indexed-loads-requires
+prepare-indexed-loads-requires c κs = search needs
 
 put-root-requires : tie.Need-put-root-requires
 put-root-requires c κs = search needs
@@ -22,9 +19,9 @@ same-length c = search needs
 
 returns-2 : tie.Need-returns-2
 unfolding begunOf
-returns-2 c = let b2 = c .before .before in let b4 = b2 .before .before in let b7 = b4 .before .before .before in let b9 = b7 .before .before in simp (eq-eqb _ _ (b9 .if1 .left)) (rw (b2 .put-root .ensures, b4 .load-at .ensures, b7 .put-loads .ensures))
+returns-2 c = let b2 = c .before .before in let b6 = b2 .before .before .before .before in let b8 = b6 .before .before in simp (eq-eqb _ _ (b8 .if1 .left)) (rw (b2 .put-root .ensures, b6 .prepare-indexed-loads .ensures .0, b6 .prepare-indexed-loads .ensures .1))
 
 pub begin-spec : {M : Type 1} → statement M
 begin-spec =
     tie.close
-    (tie.spec returns put-loads-requires load-at-requires put-root-requires same-length returns-2)
+    (tie.spec returns prepare-indexed-loads-requires put-root-requires same-length returns-2)
