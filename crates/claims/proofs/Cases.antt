@@ -49,7 +49,7 @@ use Rattle.composites.specs.Plan as sizes
 use Rattle.matrix_columns.specs.Walk as walk
 use Rattle.forward_dynamics.specs.Checks as inputs
 use Rattle.forward_dynamics.specs.ForwardDynamics as dynamics
-use Rattle.claims.specs.Cases.{twelve, masses, loads as loads-cases, Hold}
+use Rattle.claims.specs.Cases.{twelve, masses, loads as added, Hold}
 
 -- ---- what computes: to unfold one of these is to unfold all that its line names
 
@@ -99,6 +99,6 @@ pub mass-cases : Hold masses
 unfolding masses open-numbers open-spatial open-arm
 mass-cases = refl
 
-pub load-cases : Hold loads-cases
-unfolding loads-cases open-numbers open-spatial open-arm open-calls open-articulated open-dynamics
+pub load-cases : Hold added
+unfolding added open-numbers open-spatial open-arm open-calls open-articulated open-dynamics
 load-cases = refl

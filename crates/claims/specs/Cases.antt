@@ -140,6 +140,17 @@ forward mode b forces = loadedForward mode b forces [] []
 abbrev upright : Quaternion
 upright = record { w = 1·0; u = vecBy (λ i. 0·0) }
 
+-- a load along z
+abbrev alongZ : Float → List Float
+alongZ f = zeros 5 ++ f ∷ []
+
+-- link 1's load; and case 9 with two loads on it
+abbrev loadOn : List ℕ → List Float → Told
+loadOn loaded loads = given (patterns (vectorOf (loadOf loaded loads 1)))
+
+abbrev pulled : Float → Float → Told
+pulled a b = loadedForward (Fixed upright) (oneSlide 2·0) (0·0 ∷ []) (1 ∷ 1 ∷ []) (alongZ a ++ alongZ b)
+
 -- ---- the list
 
 -- what is asked and what is to be told, under document 01's numbers
@@ -180,30 +191,20 @@ masses =
     ∷ (keptMasses (bits 0x8000_0000_0000_0000) 0·0, given (0x8000_0000_0000_0000 ∷ 0 ∷ []))
     ∷ []
 
--- a load along z; what link 1 has of a list; case 9 with loads on link 1
-abbrev alongZ : Float → List Float
-alongZ f = zeros 5 ++ f ∷ []
-
-abbrev onLink : List ℕ → List Float → Told
-onLink loaded loads = given (patterns (vectorOf (loadOf loaded loads 1)))
-
-abbrev pulled : List Float → Told
-pulled loads = loadedForward (Fixed upright) (oneSlide 2·0) (0·0 ∷ []) (1 ∷ 1 ∷ []) loads
-
--- document 02, item 3
+-- document 02, item 3: loads on one link are added
 unfoldable pub loads : List (Told × Told)
 loads =
     let -0·0 = bits 0x8000_0000_0000_0000 in
     let 2^53 = bits 0x4340_0000_0000_0000 in
-    -- without one zero; one as it stands, -0.0 too; the root's is another link
-    (onLink [] [], given (replicate 6 0))
-    ∷ (onLink (0 ∷ 1 ∷ []) (alongZ 3·0 ++ replicate 6 -0·0), given (replicate 6 0x8000_0000_0000_0000))
+    -- without one zero; one as it stands, -0.0 too
+    (loadOn [] [], given (replicate 6 0))
+    ∷ (loadOn (0 ∷ 1 ∷ []) (alongZ 3·0 ++ replicate 6 -0·0), given (replicate 6 0x8000_0000_0000_0000))
     -- in list order: 2^53, 1 and 1 come to 2^53
-    ∷ (onLink (1 ∷ 1 ∷ 1 ∷ []) (alongZ 2^53 ++ alongZ 1·0 ++ alongZ 1·0), given (replicate 5 0 ++ 0x4340_0000_0000_0000 ∷ []))
+    ∷ (loadOn (1 ∷ 1 ∷ 1 ∷ []) (alongZ 2^53 ++ alongZ 1·0 ++ alongZ 1·0), given (replicate 5 0 ++ 0x4340_0000_0000_0000 ∷ []))
     -- a gripper's 3 and a cable's 4: -7/2 - 9.80665
-    ∷ (pulled (alongZ 3·0 ++ alongZ 4·0), given (0xc02a_9d01_3a92_a305 ∷ []))
+    ∷ (pulled 3·0 4·0, given (0xc02a_9d01_3a92_a305 ∷ []))
     -- a sum that overflows: what the visits find
-    ∷ (pulled (alongZ huge ++ alongZ huge), refused 36 (At 0) (0x3ff0_0000_0000_0000 ∷ []))
+    ∷ (pulled huge huge, refused 36 (At 0) (0x3ff0_0000_0000_0000 ∷ []))
     ∷ []
 
 -- each is told as expected

@@ -42,7 +42,7 @@ leastTo bad loaded (suc k) = lowerIf (bad k) (getD loaded k 0) (leastTo bad load
 abbrev pub aboveAt : ℕ → List ℕ → ℕ → Bool
 aboveAt n loaded k = ltb n (getD loaded k 0)
 
--- load k has a number that is not finite, whether a later one replaces it or not
+-- load k has a number that is not finite, whatever the sum of its link would be
 unfoldable pub wildLoad : List Float → ℕ → Bool
 wildLoad loads k = not (wrenchFinite (wrenchAt loads (k * 6)))
 

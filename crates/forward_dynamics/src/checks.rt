@@ -75,7 +75,7 @@ fn wild_load(loads: &[f64], k: usize) -> bool
     !w.is_finite()
 }
 
-// 21: the lowest link number with a listed load that is not finite, one that a later load replaces included.
+// 21: the lowest link number with a listed load that is not finite, whatever the sum of its loads would be.
 fn least_wild<'a>(loaded: &'a [u64], loads: &'a [f64]) -> Place
     requires { ⌜ length (now loads) ≡ 6 * length (now loaded) ⌝ }
     ensures { λ r. ⌜ r ≡ leastTo (wildLoad (now (loads .entry))) (now (loaded .entry)) (length (now (loaded .entry))) ⌝ }
