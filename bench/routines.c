@@ -68,18 +68,11 @@ static double passes(uint64_t count) {
     return sum;
 }
 
-int main(void) {
-    char name[16];
-    unsigned long long count;
-    if (scanf("%15s %llx", name, &count) != 2) return 1;
+static double calls(const char *name, uint64_t count) {
     bool roots = strcmp(name, "root") == 0, chain = strcmp(name, "chain") == 0;
     uint64_t at = 0;
     double sum = 1.0;
-    if (strcmp(name, "loads") == 0) {
-        sum = passes(count);
-        count = 0;
-    }
-    for (unsigned long long i = 0; i < count; i++) {
+    for (uint64_t i = 0; i < count; i++) {
         at = next(at);
         double x = number(at), y;
         if (roots) {
@@ -93,6 +86,14 @@ int main(void) {
             sum += unit_axis((Vec3){x, number(b), number(at)}, &kept) ? kept.x : 0.0;
         }
     }
+    return sum;
+}
+
+int main(void) {
+    char name[16];
+    unsigned long long count;
+    if (scanf("%15s %llx", name, &count) != 2) return 1;
+    double sum = strcmp(name, "loads") == 0 ? passes(count) : calls(name, count);
     uint64_t bits;
     memcpy(&bits, &sum, sizeof bits);
     printf("%016llx\n", (unsigned long long)bits);

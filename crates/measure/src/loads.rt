@@ -1,6 +1,7 @@
 // Passes over a list of 2,048 loads, on the links of 32 joints, one after another.
 use crate::runs::next;
 use crate::runs::number;
+use forward_slots::layout;
 use forward_slots::loads::prepare_indexed_loads;
 
 const COUNT: usize = 2048;
@@ -25,9 +26,9 @@ fn links() -> [u64; COUNT] {
 
 // Another number differs with each call. What is told is of the root's load and of a joint's.
 fn pass(loaded: &[u64; COUNT], loads: &mut [f64; NUMBERS], ws: &mut [f64; ROOM], at: u64) -> f64 {
-    loads[(at % 12288) as usize] = number(at);
+    loads[at as usize % NUMBERS] = number(at);
     let root = prepare_indexed_loads(32, loaded, loads, ws);
-    root.force.z + ws[(at % 32) as usize * 95 + 75]
+    root.force.z + ws[at as usize % 32 * layout::JOINT + layout::LOAD]
 }
 
 pub fn run(count: u64) -> f64 {
