@@ -47,11 +47,16 @@ static void prepare_indexed_loads(uint64_t n, const uint64_t *loaded, uint64_t c
         uint64_t link = loaded[k];
         if (link > n) continue;
         double *sum = link == 0 ? root : ws + JOINT * (link - 1) + LOAD;
-        for (int i = 0; i < 6; i++) sum[i] = any[link] ? sum[i] + loads[6 * k + i] : loads[6 * k + i];
-        any[link] = true;
+        if (any[link]) {
+            for (int i = 0; i < 6; i++) sum[i] += loads[6 * k + i];
+        } else {
+            memcpy(sum, loads + 6 * k, 6 * sizeof *sum);
+            any[link] = true;
+        }
     }
 }
-static double passes(uint64_t count) {
+/* Not drawn into main, whose loops gcc takes for cold. */
+__attribute__((noinline)) static double passes(uint64_t count) {
     static uint64_t loaded[COUNT];
     static double loads[NUMBERS], ws[ROOM];
     uint64_t at = 0;
