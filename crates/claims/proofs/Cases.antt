@@ -1,4 +1,4 @@
--- The twelve cases, the masses and the loads, computed. Assumes nothing.
+-- The twelve cases, the masses, the loads and the turns, computed. Assumes nothing.
 use mathlib.Core.List.{_++_}
 use mathlib.Core.Path.{refl, ap₂}
 use Prim.{Unit}
@@ -49,7 +49,7 @@ use Rattle.composites.specs.Plan as sizes
 use Rattle.matrix_columns.specs.Walk as walk
 use Rattle.forward_dynamics.specs.Checks as inputs
 use Rattle.forward_dynamics.specs.ForwardDynamics as dynamics
-use Rattle.claims.specs.Cases.{twelve, masses, loads as added, Hold}
+use Rattle.claims.specs.Cases.{twelve, masses, loads as added, turns, Hold}
 
 -- ---- what computes: to unfold one of these is to unfold all that its line names
 
@@ -102,3 +102,7 @@ mass-cases = refl
 pub load-cases : Hold added
 unfolding added open-numbers open-spatial open-arm open-calls open-articulated open-dynamics
 load-cases = refl
+
+pub turn-cases : Hold turns
+unfolding turns open-numbers open-spatial open-arm open-calls open-matrix
+turn-cases = refl

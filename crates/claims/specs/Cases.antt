@@ -1,4 +1,4 @@
--- The twelve small cases of document 01, and of document 02 the masses of item 9 and the loads of item 3: what is asked, by the definitions of the calls, and what is to be told. Definitions only.
+-- The twelve small cases of document 01, and of document 02 the masses of item 9, the loads of item 3 and the turns of item 6: what is asked, by the definitions of the calls, and what is to be told. Definitions only.
 -- "Unless said: identity origins and root rotation, fixed root, other numbers zero."
 use mathlib.Core.List.{List, [], _∷_, _++_, map}
 use mathlib.Core.Path.{_≡_}
@@ -7,6 +7,9 @@ use lib.ListN.{length, replicate}
 use lib.Ieee.{Float, binary64, toBits}
 use Rattle.numbers.specs.Double.{_⊗_, _⊘_, bits, 0·0, 1·0, 2·0}
 use Rattle.square_root.specs.SquareRoot.{rootOf}
+use Rattle.half_turn.specs.HalfTurn.{halfTurnOf}
+use Rattle.half_turn.specs.declared.HalfTurn.{HalfTurn}
+use Rattle.half_turn.specs.declared.HalfTurn.the-variants.{Of, OutOfRange}
 use Rattle.numbers.specs.Vec3.{vecBy}
 use Rattle.numbers.specs.declared.quaternion.Quaternion.{Quaternion}
 use Rattle.square_root.specs.declared.Root.{Root}
@@ -41,7 +44,7 @@ pub data Told : Type 0 where
   given : List ℕ → Told
   -- by the refusal's number, what is named, and what the numbers then are
   refused : ℕ → Place → List ℕ → Told
-  -- no root, or a calculation that has not ended
+  -- no root, out of range, or a calculation that has not ended
   unanswered : Told
 
 abbrev pub patterns : List Float → List ℕ
@@ -50,6 +53,10 @@ patterns v = map (toBits binary64) v
 abbrev pub ofRoot : Root → Told
 ofRoot (Is r) = given (patterns (r ∷ []))
 ofRoot No = unanswered
+
+abbrev pub ofHalfTurn : HalfTurn → Told
+ofHalfTurn (Of v) = given (patterns (v .sin ∷ v .cos ∷ []))
+ofHalfTurn OutOfRange = unanswered
 
 abbrev pub ofVerdict : Verdict → List Float → Told
 ofVerdict Fine v = given (patterns v)
@@ -125,9 +132,12 @@ ones n = replicate n 1·0
 abbrev output : Result → Told
 output r = ofOutcome (r .0 .outcome) (r .2)
 
--- the undivided calls, at rest with every joint at 0
+-- the undivided calls, at rest with every joint at 0 unless said
+abbrev matrixAt : List Float → Built → Told
+matrixAt q b = let n = b .model .n in output (wholeOf (massMatrix matrix.Fixed (b .model) q) (ones (n * 32 + 64 + n * n)) (ones (n * n)))
+
 abbrev fixedMatrix : Built → Told
-fixedMatrix b = let n = b .model .n in output (wholeOf (massMatrix matrix.Fixed (b .model) (zeros n)) (ones (n * 32 + 64 + n * n)) (ones (n * n)))
+fixedMatrix b = matrixAt (zeros (b .model .n)) b
 
 abbrev loadedForward : Mode → Built → List Float → List ℕ → List Float → Told
 loadedForward mode b forces loaded loads =
@@ -150,6 +160,10 @@ loadOn loaded loads = given (patterns (vectorOf (loadOf loaded loads 1)))
 
 abbrev pulled : Float → Float → Told
 pulled a b = loadedForward (Fixed upright) (oneSlide 2·0) (0·0 ∷ []) (1 ∷ 1 ∷ []) (alongZ a ++ alongZ b)
+
+-- a turn on z that carries an inertia of 5, by q: its entry is 5 wherever it stands
+abbrev turnedBy : Float → Told
+turnedBy q = matrixAt (q ∷ []) (oneJoint 0 z (link 0·0 0·0 0·0 (bits 0x4014_0000_0000_0000)))
 
 -- ---- the list
 
@@ -205,6 +219,23 @@ loads =
     ∷ (pulled 3·0 4·0, given (0xc02a_9d01_3a92_a305 ∷ []))
     -- a sum that overflows: what the visits find
     ∷ (pulled huge huge, refused 36 (At 0) (0x3ff0_0000_0000_0000 ∷ []))
+    ∷ []
+
+-- document 02, item 6: 1024 and the limit of a turn, each with the next double
+unfoldable pub turns : List (Told × Told)
+turns =
+    let limit = bits 0x4130_0000_0000_0000 in
+    let -limit = bits 0xc130_0000_0000_0000 in
+    let beyond = bits 0x4130_0000_0000_0001 in
+    (ofHalfTurn (halfTurnOf (bits 0x4090_0000_0000_0000)), given (0x3fb4_5b52_f336_64cf ∷ 0xbfef_e60f_23a8_1f3d ∷ []))
+    ∷ (ofHalfTurn (halfTurnOf (bits 0x4090_0000_0000_0001)), given (0x3fb4_5b52_f336_44e9 ∷ 0xbfef_e60f_23a8_1f8e ∷ []))
+    ∷ (ofHalfTurn (halfTurnOf limit), given (0x3fc5_7481_ec90_fde4 ∷ 0x3fef_8c19_86ca_67fa ∷ []))
+    ∷ (ofHalfTurn (halfTurnOf -limit), given (0xbfc5_7481_ec90_fde4 ∷ 0x3fef_8c19_86ca_67fa ∷ []))
+    ∷ (ofHalfTurn (halfTurnOf beyond), unanswered)
+    -- 13 begins where "out of range" does
+    ∷ (turnedBy limit, given (0x4014_0000_0000_0000 ∷ []))
+    ∷ (turnedBy -limit, given (0x4014_0000_0000_0000 ∷ []))
+    ∷ (turnedBy beyond, refused 13 (At 0) (0x3ff0_0000_0000_0000 ∷ []))
     ∷ []
 
 -- each is told as expected

@@ -1,17 +1,19 @@
 -- A bound on a product of two doubles: `AtMost B x` says that x is finite and at most B in size. Assumes nothing.
 use mathlib.Core.Path.{_≡_, refl, sym, ap, _∙_, subst}
+use mathlib.Core.Logic.{_⊎_, inl, inr}
 use mathlib.Core.Bool.{Bool, true, false, _&&_, _||_, true≢false}
-use Prim.Native.Nat.{ℕ, _*_, _^_, _≤_, _<_, zero-le}
-use native.Mathlib.Nat.{le-trans, le-of-eq, le-of-lt, lt-of-le-of-lt, mul-one, zero-mul, mul-right-comm, mul-mul-mul-comm, mul-le-mul, le-of-mul-le-mul-right, mul-pos, mul-lt-mul-of-pos-right}
+use Prim.Native.Nat.{ℕ, zero, suc, _+_, _*_, _^_, _≤_, _<_, zero-le}
+use native.Mathlib.Nat.{le-trans, le-of-eq, le-of-lt, lt-of-le-of-lt, mul-one, zero-mul, mul-right-comm, mul-mul-mul-comm, mul-le-mul, mul-le-mul-right, eq-or-lt-of-le, le-of-mul-le-mul-right, mul-pos, mul-lt-mul-of-pos-right}
+use native.Mathlib.Omega.{arith}
 use lib.IntN.{ℤ, pos}
-use lib.Dec.{T, ltb, eqb, ltb→lt, lt→ltb, eqb→eq, lit≤, lit<}
-use lib.Ieee.{Float, nan, inf, fin, binary64, up, down, unlike, round, mul, neg, le, ofBits}
-use lib.Ieee.Fits.{down-pos, and-l, and-r}
+use lib.Dec.{T, ltb, eqb, ltb→lt, lt→ltb, eqb→eq, eqb-refl, lit≤, lit<}
+use lib.Ieee.{Float, nan, inf, fin, binary64, up, down, unlike, round, mul, neg, le, ofBits, ofInt}
+use lib.Ieee.Fits.{down-pos, and-i, and-l, and-r}
 use lib.Ieee.Exact.{HasValue}
 use lib.Ieee.Order.{round-mono}
 use lib.Ieee.Back.{round-whole}
 use Rattle.numbers.specs.Double.{_⊗_, 0·5}
-use Rattle.half_turn.specs.HalfTurn.{small, K, turnLimit, inRange}
+use Rattle.half_turn.specs.HalfTurn.{small, K, turnLimit, ofNat, within, inRange}
 use Rattle.half_turn.proofs.Rounding.{neg-round}
 
 abbrev pub AtMost : ℕ → Float → Type 0
@@ -26,9 +28,19 @@ lt-or-eq a b t h = go (ltb a b) (eqb a b) (ltb→lt a b) (eqb→eq a b) h
     go true q f g h = le-of-lt (f tt)
     go false q f g h = le-of-eq (g (and-l q t h))
 
+gt-or-eq : (a b : ℕ) (t : Bool) → T (ltb b a || (eqb a b && t)) → b ≤ a
+gt-or-eq a b t h = go (ltb b a) (eqb a b) (ltb→lt b a) (eqb→eq a b) h
+  where
+    go : (p q : Bool) → (T p → b < a) → (T q → a ≡ b) → T (p || (q && t)) → b ≤ a
+    go true q f g h = le-of-lt (f tt)
+    go false q f g h = le-of-eq (sym (g (and-l q t h)))
+
 -- m / u ≤ n / d and n / d = B
 through : (m u n d B : ℕ) → 0 < d → m * d ≤ n * u → n * 1 ≡ B * d → m ≤ B * u
 through m u n d B D h e = le-of-mul-le-mul-right (le-trans h (le-of-eq (ap (λ (x : ℕ). x * u) (sym (mul-one n) ∙ e) ∙ mul-right-comm B d u))) D
+
+back : (m u n d B : ℕ) → m ≤ B * u → n * 1 ≡ B * d → m * d ≤ n * u
+back m u n d B h e = le-trans (mul-le-mul-right d h) (le-of-eq (mul-right-comm B u d ∙ ap (λ (x : ℕ). x * u) (sym e ∙ mul-one n)))
 
 -- a value that is not negative is `fin false n d`
 shape : (x : Float) (B : ℕ) → HasValue x false B 1 → (n : ℕ) × (d : ℤ) × (x ≡ fin false n d) × (n * up d * 1 ≡ B * down d)
@@ -82,34 +94,62 @@ mul-at-most A B (fin s m e) (fin t n d) h k b =
     (le-trans (mul-le-mul h k) (le-of-eq (mul-mul-mul-comm A (down e) B (down d)))) b
 
 -- ---- the range of the angle
-limit-is : turnLimit ≡ fin false 1 (pos 10)
-unfolding ofBits
-limit-is = refl
 
-minus-limit-is : neg (fin false 1 (pos 10)) ≡ fin true 1 (pos 10)
-unfolding neg
-minus-limit-is = refl
-
-in-range : (q : Float) → T (inRange q) → AtMost 1024 q
+-- `within` over a whole number is a bound on the size
+bounded : (B : ℕ) (n : ℕ) (d : ℤ) (q : Float) → n * up d * 1 ≡ B * down d → T (le q (fin false n d)) → T (le (fin true n d) q) → AtMost B q
 unfolding le
-in-range q h =
-    go q
-    (subst (λ (z : Float). T (le q z)) limit-is (and-l (le q turnLimit) (le (neg turnLimit) q) h))
-    (subst (λ (z : Float). T (le z q)) (ap neg limit-is ∙ minus-limit-is) (and-r (le q turnLimit) (le (neg turnLimit) q) h))
-  where
-    gt-or-eq : (a b : ℕ) → T (ltb b a || (eqb a b && true)) → b ≤ a
-    gt-or-eq a b h = pick (ltb b a) (eqb a b) (ltb→lt b a) (eqb→eq a b) h
-      where
-        pick : (p r : Bool) → (T p → b < a) → (T r → a ≡ b) → T (p || (r && true)) → b ≤ a
-        pick true r f g h = le-of-lt (f tt)
-        pick false r f g h = le-of-eq (sym (g (and-l r true h)))
+bounded B n d nan v h k = absurd h
+bounded B n d (inf true) v h k = absurd k
+bounded B n d (inf false) v h k = absurd h
+bounded B n d (fin false m e) v h k = through (m * up e) (down e) (n * up d) (down d) B (down-pos d) (lt-or-eq (m * up e * down d) (n * up d * down e) true h) v
+bounded B n d (fin true m e) v h k = through (m * up e) (down e) (n * up d) (down d) B (down-pos d) (gt-or-eq (n * up d * down e) (m * up e * down d) true k) v
 
-    go : (q : Float) → T (le q (fin false 1 (pos 10))) → T (le (fin true 1 (pos 10)) q) → AtMost 1024 q
-    go nan h k = absurd h
-    go (inf true) h k = absurd k
-    go (inf false) h k = absurd h
-    go (fin false m e) h k = le-trans (le-of-eq (sym (mul-one (m * up e)))) (lt-or-eq (m * up e * 1) (1024 * down e) true h)
-    go (fin true m e) h k = le-trans (le-of-eq (sym (mul-one (m * up e)))) (gt-or-eq (1024 * down e) (m * up e * 1) k)
+pub within-at-most : (B : ℕ) (q : Float) → B ≤ 2 ^ 53 → T (within (ofNat B) q) → AtMost B q
+unfolding ofInt neg
+within-at-most B q b h =
+    let w = shape (ofNat B) B (round-whole binary64 false B b) in
+    let g : T (within (fin false (w .0) (w .1)) q) = subst (λ (x : Float). T (within x q)) (w .2) h in
+    bounded B (w .0) (w .1) q (w .3) (and-l (le q (fin false (w .0) (w .1))) (le (fin true (w .0) (w .1)) q) g) (and-r (le q (fin false (w .0) (w .1))) (le (fin true (w .0) (w .1)) q) g)
+
+-- and a number of that size is within it
+or-l : (p q : Bool) → T p → T (p || q)
+or-l true q h = tt
+or-l false q h = absurd h
+
+either : (p q : Bool) → T p ⊎ T q → T (p || (q && true))
+either true q h = tt
+either false true h = tt
+either false false (inl h) = h
+either false false (inr h) = h
+
+le-or-eq : (a b : ℕ) → a ≤ b → T (ltb a b || (eqb a b && true)) × T (ltb a b || (eqb b a && true))
+le-or-eq a b h = go (eq-or-lt-of-le h)
+  where
+    go : (a ≡ b) ⊎ (a < b) → T (ltb a b || (eqb a b && true)) × T (ltb a b || (eqb b a && true))
+    go (inl e) = (
+      either (ltb a b) (eqb a b) (inr (subst (λ (x : ℕ). T (eqb a x)) e (eqb-refl a))),
+      either (ltb a b) (eqb b a) (inr (subst (λ (x : ℕ). T (eqb x a)) e (eqb-refl a))),
+    )
+    go (inr l) = (either (ltb a b) (eqb a b) (inl (lt→ltb a b l)), either (ltb a b) (eqb b a) (inl (lt→ltb a b l)))
+
+minus-le-plus : (a b : ℕ) → T (ltb 0 (a + b) || (eqb a b && (false || eqb a 0)))
+minus-le-plus zero zero = tt
+minus-le-plus zero (suc b) = or-l (ltb 0 (0 + suc b)) (eqb 0 (suc b) && (false || eqb 0 0)) (lt→ltb 0 (0 + suc b) (omega arith))
+minus-le-plus (suc a) b = or-l (ltb 0 (suc a + b)) (eqb (suc a) b && (false || eqb (suc a) 0)) (lt→ltb 0 (suc a + b) (omega arith))
+
+inside : (B : ℕ) (n : ℕ) (d : ℤ) (q : Float) → n * up d * 1 ≡ B * down d → AtMost B q → T (le q (fin false n d)) × T (le (fin true n d) q)
+unfolding le
+inside B n d nan v h = absurd h
+inside B n d (inf s) v h = absurd h
+inside B n d (fin false m e) v h = (le-or-eq (m * up e * down d) (n * up d * down e) (back (m * up e) (down e) (n * up d) (down d) B h v) .0, minus-le-plus (n * up d * down e) (m * up e * down d))
+inside B n d (fin true m e) v h = (minus-le-plus (m * up e * down d) (n * up d * down e), le-or-eq (m * up e * down d) (n * up d * down e) (back (m * up e) (down e) (n * up d) (down d) B h v) .1)
+
+pub at-most-within : (B : ℕ) (q : Float) → B ≤ 2 ^ 53 → AtMost B q → T (within (ofNat B) q)
+unfolding ofInt neg
+at-most-within B q b h =
+    let w = shape (ofNat B) B (round-whole binary64 false B b) in
+    let i = inside B (w .0) (w .1) q (w .3) h in
+    subst (λ (x : Float). T (within x q)) (sym (w .2)) (and-i (le q (fin false (w .0) (w .1))) (le (fin true (w .0) (w .1)) q) (i .0) (i .1))
 
 half : AtMost 1 0·5
 unfolding ofBits
@@ -119,12 +159,13 @@ two-over-pi : AtMost 1 K
 unfolding ofBits
 two-over-pi = lit≤ tt
 
-small-of : (x : Float) → AtMost 1024 x → T (small x)
-small-of nan h = absurd h
-small-of (inf s) h = absurd h
-small-of (fin s m e) h = lt→ltb (m * up e) (2147483648 * down e) (lt-of-le-of-lt h (mul-lt-mul-of-pos-right (lit< tt) (down-pos e)))
+small-of : (B : ℕ) (x : Float) → B < 2147483648 → AtMost B x → T (small x)
+small-of B nan l h = absurd h
+small-of B (inf s) l h = absurd h
+small-of B (fin s m e) l h = lt→ltb (m * up e) (2147483648 * down e) (lt-of-le-of-lt h (mul-lt-mul-of-pos-right l (down-pos e)))
 
 -- what `nearest` asks at its call
 pub quarters-small : (q : Float) → T (inRange q) → T (small (q ⊗ 0·5 ⊗ K))
 quarters-small q h =
-    small-of (q ⊗ 0·5 ⊗ K) (mul-at-most 1024 1 (q ⊗ 0·5) K (mul-at-most 1024 1 q 0·5 (in-range q h) half (lit≤ tt)) two-over-pi (lit≤ tt))
+    small-of turnLimit (q ⊗ 0·5 ⊗ K) (lit< tt)
+    (mul-at-most turnLimit 1 (q ⊗ 0·5) K (mul-at-most turnLimit 1 q 0·5 (within-at-most turnLimit q (lit≤ tt) h) half (lit≤ tt)) two-over-pi (lit≤ tt))

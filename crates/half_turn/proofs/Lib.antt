@@ -3,3 +3,4 @@ pub mod Shift
 pub mod Lists
 pub mod Tables
 pub mod Bound
+pub mod Kept

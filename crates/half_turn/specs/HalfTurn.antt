@@ -88,25 +88,59 @@ P1 = bits 0x3FF921FB54400000
 abbrev pub P2 : Float
 P2 = bits 0x3DD0B4611A626331
 
--- half the angle less n quarter turns, in two steps
-unfoldable pub reducedOf : Float → Float → Float
-reducedOf h n = (h ⊖ n ⊗ P1) ⊖ n ⊗ P2
+-- P2 cut short, and what was cut off with more behind it (document 02, item 6)
+abbrev pub P2' : Float
+P2' = bits 0x3DD0B4611A600000
 
--- 1024
-abbrev pub turnLimit : Float
-turnLimit = bits 0x4090_0000_0000_0000
+abbrev pub P3 : Float
+P3 = bits 0x3BA3198A2E037073
 
--- no NaN, and not beyond the limit in size
+-- half the angle less n quarter turns, in document 01's two steps and in document 02's three
+unfoldable pub twoStepsOf : Float → Float → Float
+twoStepsOf h n = (h ⊖ n ⊗ P1) ⊖ n ⊗ P2
+
+unfoldable pub threeStepsOf : Float → Float → Float
+threeStepsOf h n = ((h ⊖ n ⊗ P1) ⊖ n ⊗ P2') ⊖ n ⊗ P3
+
+-- ---- its limits
+
+-- up to here in size two steps, beyond it three
+abbrev pub twoStepLimit : ℕ
+twoStepLimit = 1024
+
+-- beyond this size "out of range"
+abbrev pub turnLimit : ℕ
+turnLimit = 1048576
+
+-- the whole number as a double
+abbrev pub ofNat : ℕ → Float
+ofNat n = ofInt binary64 (pos n)
+
+-- no NaN, and not beyond b in size
+abbrev pub within : Float → Float → Bool
+within b q = le q b && le (neg b) q
+
 abbrev pub inRange : Float → Bool
-inRange q = le q turnLimit && le (neg turnLimit) q
+inRange q = within (ofNat turnLimit) q
 
--- sine and cosine of h = q × 0.5
-unfoldable pub sinCosOf : Float → SinCos
-unfolding seriesOf placedOf reducedOf wholeOf quarterOf
-sinCosOf q =
+-- ---- the routine
+
+-- h is half of q
+unfoldable pub reducedOf : Float → Float → Float → Float
+unfolding twoStepsOf threeStepsOf
+reducedOf q h n = cond (within (ofNat twoStepLimit) q) (twoStepsOf h n) (threeStepsOf h n)
+
+-- sine and cosine of h = q × 0.5, by a rule that reduces h
+unfoldable pub sinCosBy : (Float → Float → Float) → Float → SinCos
+unfolding seriesOf placedOf wholeOf quarterOf
+sinCosBy reduce q =
     let h = q ⊗ 0·5 in
     let n = wholeOf (h ⊗ K) in
-    placedOf (seriesOf (reducedOf h (ofInt binary64 n))) (quarterOf n)
+    placedOf (seriesOf (reduce h (ofInt binary64 n))) (quarterOf n)
+
+unfoldable pub sinCosOf : Float → SinCos
+unfolding sinCosBy reducedOf
+sinCosOf q = sinCosBy (reducedOf q) q
 
 unfoldable pub halfTurnOf : Float → HalfTurn
 unfolding sinCosOf
@@ -116,3 +150,8 @@ halfTurnOf q = cond (inRange q) (Of (sinCosOf q)) OutOfRange
 unfoldable pub HalfTurnIs : Float → HalfTurn → Type 0
 HalfTurnIs q (Of v) = (inRange q ≡ true) × (v ≡ sinCosOf q)
 HalfTurnIs q OutOfRange = inRange q ≡ false
+
+-- ---- document 01's half turn, kept for the law that its answers stand (proofs/Kept.antt): two steps for every angle, and a limit of 1024
+unfoldable pub firstHalfTurnOf : Float → HalfTurn
+unfolding sinCosBy twoStepsOf
+firstHalfTurnOf q = cond (within (ofNat twoStepLimit) q) (Of (sinCosBy twoStepsOf q)) OutOfRange

@@ -3,7 +3,7 @@ ghost use mathlib.Core.Path.{_≡_};
 ghost use Prim.Native.Nat.{_<_};
 ghost use lib.Dec.{T};
 ghost use lib.ListN.{length};
-ghost use Rattle.half_turn.specs.HalfTurn.{small, turnsOf, hornerOf, seriesOf, placedOf, reducedOf, inRange, halfTurnOf, HalfTurnIs};
+ghost use Rattle.half_turn.specs.HalfTurn.{small, turnsOf, hornerOf, seriesOf, placedOf, reducedOf, within, inRange, halfTurnOf, HalfTurnIs};
 
 // A whole number as a double, and modulo 4.
 pub struct Turns {
@@ -50,6 +50,16 @@ const K: f64 = 0.63661977236758138243;
 const P1: f64 = 1.57079632673412561417;
 
 const P2: f64 = 0.0000000000607710050650619224;
+
+// P2 in two parts: the first is short too, so that with many turns the product of it is exact as well.
+const P2_SHORT: f64 = 0.00000000006077100506303966;
+
+const P3: f64 = 0.0000000000000000000020222662487959506;
+
+// Up to the first in size an angle is reduced in two steps, up to the second in three; beyond it there is no answer.
+const TWO_STEP_LIMIT: f64 = 1024.0;
+
+const TURN_LIMIT: f64 = 1048576.0;
 
 // The whole number nearest x. Adding 1.5 * 2^52 leaves no digit behind the point, and rounds as asked.
 fn nearest(x: f64) -> Turns
@@ -112,20 +122,32 @@ fn placed(v: SinCos, n: u64) -> SinCos
     }
 }
 
-fn reduced(h: f64, n: f64) -> f64
-    ensures { λ r. ⌜ r ≡ reducedOf h n ⌝ }
+// Whether q is a number, and not beyond b in size.
+fn within(b: f64, q: f64) -> bool
+    ensures { λ r. ⌜ r ≡ within b q ⌝ }
 {
-    (h - n * P1) - n * P2
+    if q <= b {
+        return -b <= q;
+    }
+    false
+}
+
+// h less n quarter turns; q is 2 * h.
+fn reduced(q: f64, h: f64, n: f64) -> f64
+    ensures { λ r. ⌜ r ≡ reducedOf q h n ⌝ }
+{
+    let less = h - n * P1;
+    if within(TWO_STEP_LIMIT, q) {
+        return less - n * P2;
+    }
+    (less - n * P2_SHORT) - n * P3
 }
 
 // Whether q is a number, and not beyond the limit of a turn in size.
 pub fn in_range(q: f64) -> bool
     ensures { λ r. ⌜ r ≡ inRange q ⌝ }
 {
-    if q <= 1024.0 {
-        return -1024.0 <= q;
-    }
-    false
+    within(TURN_LIMIT, q)
 }
 
 // Sine and cosine of q * 0.5.
@@ -135,7 +157,7 @@ pub fn half_turn(q: f64) -> HalfTurn
     if in_range(q) {
         let h = q * 0.5;
         let t = nearest(h * K);
-        return HalfTurn::Of(placed(series(reduced(h, t.whole)), t.quarter));
+        return HalfTurn::Of(placed(series(reduced(q, h, t.whole)), t.quarter));
     }
     HalfTurn::OutOfRange
 }

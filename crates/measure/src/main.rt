@@ -1,5 +1,5 @@
-// For bench/run: a line `root COUNT`, `chain COUNT`, `axis COUNT` or `loads COUNT` makes so many calls, and the answer is what they come to; to another word, or
-// where the count is none, it is `error`.
+// For bench/run: a line `root COUNT`, `chain COUNT`, `axis COUNT`, `turn COUNT`, `wide COUNT` or `loads COUNT` makes so many calls, and the answer is what they come to;
+// to another word, or where the count is none, it is `error`.
 ghost use Prim.Native.Nat.{_≤_};
 ghost use lib.ListN.{length};
 
@@ -31,6 +31,12 @@ fn total(name: &[u8], count: u64) -> Sum {
     }
     if same(name, b"axis") {
         return Sum::Is(runs::run(Routine::Axis, count));
+    }
+    if same(name, b"turn") {
+        return Sum::Is(runs::run(Routine::Turn, count));
+    }
+    if same(name, b"wide") {
+        return Sum::Is(runs::run(Routine::Wide, count));
     }
     if same(name, b"loads") {
         return Sum::Is(loads::run(count));

@@ -1,6 +1,7 @@
 // Calls of one routine, one after another, on numbers that vary: a processor that has learned one call's branches has not learned the next one's.
 use builder::axis;
 use builder::axis::Axis;
+use half_turn::HalfTurn;
 use numbers::vec3::Vec3;
 use square_root::Root;
 use words::read::double_of;
@@ -12,6 +13,9 @@ pub enum Routine {
     Chain,
     // The axis rule.
     Axis,
+    // Half turns of up to 1024, and of up to the limit.
+    Turn,
+    Wide,
 }
 
 // Where the numbers stand, and what the answers come to.
@@ -44,6 +48,13 @@ fn unit(x: f64, y: f64, z: f64) -> f64 {
     }
 }
 
+fn half(q: f64) -> f64 {
+    match half_turn::half_turn(q) {
+        HalfTurn::Of(v) => v.sin,
+        HalfTurn::OutOfRange => 0.0,
+    }
+}
+
 fn call(routine: Routine, s: Stand) -> Stand {
     let at = next(s.at);
     let x = number(at);
@@ -55,6 +66,14 @@ fn call(routine: Routine, s: Stand) -> Stand {
         Routine::Chain => Stand {
             at,
             sum: root(x * s.sum),
+        },
+        Routine::Turn => Stand {
+            at,
+            sum: s.sum + half(x * 256.0),
+        },
+        Routine::Wide => Stand {
+            at,
+            sum: s.sum + half(x * 262144.0),
         },
         Routine::Axis => {
             let y = next(at);

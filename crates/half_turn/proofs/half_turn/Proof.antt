@@ -7,15 +7,15 @@ use Rattle.numbers.specs.Double.{_⊗_, 0·5}
 use Rattle.half_turn.specs.declared.Turns.{Turns}
 use Rattle.half_turn.specs.declared.SinCos.{SinCos}
 use Rattle.half_turn.specs.declared.HalfTurn.the-variants.{Of}
-use Rattle.half_turn.specs.HalfTurn.{K, turnsOf, inRange, reducedOf, seriesOf, placedOf, sinCosOf, halfTurnOf, HalfTurnIs}
+use Rattle.half_turn.specs.HalfTurn.{K, turnsOf, inRange, reducedOf, seriesOf, placedOf, sinCosBy, sinCosOf, halfTurnOf, HalfTurnIs}
 use Rattle.half_turn.proofs.Bound.{quarters-small}
 use Rattle.half_turn.proofs.half_turn.Statement.{statement}
 use Rattle.half_turn.proofs.half_turn.Tie as tie
 
 -- what the four calls ensure, put together
-glue : (q r : Float) (t : Turns) (s p : SinCos) → inRange q ≡ true → t ≡ turnsOf (q ⊗ 0·5 ⊗ K) → r ≡ reducedOf (q ⊗ 0·5) (t .whole)
+glue : (q r : Float) (t : Turns) (s p : SinCos) → inRange q ≡ true → t ≡ turnsOf (q ⊗ 0·5 ⊗ K) → r ≡ reducedOf q (q ⊗ 0·5) (t .whole)
     → s ≡ seriesOf r → p ≡ placedOf s (t .quarter) → (Of p ≡ halfTurnOf q) × HalfTurnIs q (Of p)
-unfolding halfTurnOf sinCosOf HalfTurnIs turnsOf
+unfolding halfTurnOf sinCosOf sinCosBy HalfTurnIs turnsOf
 glue q r t s p h a b d e = (rw (h, e, d, b, a), (h, rw (e, d, b, a)))
 
 in-range-requires : tie.Need-in-range-requires
