@@ -15,6 +15,8 @@
 #include <stdlib.h>
 #include <string.h>
 
+#include "half_turn.h"
+
 #define ROOM 32
 #define GRAVITY 9.80665
 #define LONGEST_LIST 4096
@@ -112,25 +114,6 @@ static inline Mat3 turned(const Mat3 *r, const Mat3 *a) {
     return product3(&ra, &rt);
 }
 static inline Mat3 cross_matrix(Vec3 v) { return (Mat3){{{0.0, -v.z, v.y}, {v.z, 0.0, -v.x}, {-v.y, v.x, 0.0}}}; }
-
-/* Sine and cosine of q/2, for |q| up to 1024. */
-static void half_turn(double q, double *sine, double *cosine) {
-    static const double s[] = {-1.0 / 6, 1.0 / 120, -1.0 / 5040, 1.0 / 362880, -1.0 / 39916800, 1.0 / 6227020800.0,
-                               -1.0 / 1307674368000.0, 1.0 / 355687428096000.0};
-    static const double c[] = {-1.0 / 2, 1.0 / 24, -1.0 / 720, 1.0 / 40320, -1.0 / 3628800, 1.0 / 479001600,
-                               -1.0 / 87178291200.0, 1.0 / 20922789888000.0};
-    const double k = 0x1.45f306dc9c883p-1, p1 = 0x1.921fb544p0, p2 = 0x1.0b4611a626331p-34, nearest = 0x1.8p52;
-    double h = q * 0.5, n = (h * k + nearest) - nearest;
-    double r = (h - n * p1) - n * p2, z = r * r, a = s[7], b = c[7];
-    for (int i = 6; i >= 0; i--) a = s[i] + z * a, b = c[i] + z * b;
-    double S = r + (r * z) * a, C = 1.0 + z * b;
-    switch ((int64_t)n & 3) {
-    case 0: *sine = S, *cosine = C; break;
-    case 1: *sine = C, *cosine = -S; break;
-    case 2: *sine = -S, *cosine = -C; break;
-    default: *sine = -C, *cosine = S;
-    }
-}
 
 /* Six-vectors and 6×6 matrices */
 
@@ -351,7 +334,7 @@ static bool bad_values(const Model *m, const Plan *p, const double *q, Answer *a
 }
 static bool far_turn(const Model *m, const Plan *p, const double *q, Answer *answer) {
     for (uint64_t j = 0; j < m->n; j++)
-        if (m->kinds[j] == TURN && fabs(value_of(m, p, q, j)) > 1024.0) return *answer = refused(13, (long)j), true;
+        if (m->kinds[j] == TURN && fabs(value_of(m, p, q, j)) > TURN_LIMIT) return *answer = refused(13, (long)j), true;
     return false;
 }
 static bool bad_loads(const Model *m, const Call *c, Answer *answer) {

@@ -1,10 +1,12 @@
-/* The calls of crates/measure in plain C, with the processor's own root: a line `root COUNT`, `chain COUNT`, `axis COUNT` or `loads COUNT`, the count in
-   hexadecimal, and the answer is what the calls come to. */
+/* The calls of crates/measure in plain C, with the processor's own root: a line `root COUNT`, `chain COUNT`, `axis COUNT`, `turn COUNT`, `wide COUNT` or
+   `loads COUNT`, the count in hexadecimal, and the answer is what the calls come to. */
 #include <math.h>
 #include <stdbool.h>
 #include <stdint.h>
 #include <stdio.h>
 #include <string.h>
+
+#include "half_turn.h"
 
 typedef struct { double x, y, z; } Vec3;
 
@@ -73,6 +75,19 @@ __attribute__((noinline)) static double passes(uint64_t count) {
     return sum;
 }
 
+static double half(double q) {
+    double sine, cosine;
+    if (!(fabs(q) <= TURN_LIMIT)) return 0.0;
+    half_turn(q, &sine, &cosine);
+    return sine;
+}
+static double turns(uint64_t count, double reach) {
+    uint64_t at = 0;
+    double sum = 1.0;
+    for (uint64_t i = 0; i < count; i++) sum += half(number(at = next(at)) * reach);
+    return sum;
+}
+
 static double calls(const char *name, uint64_t count) {
     bool roots = strcmp(name, "root") == 0, chain = strcmp(name, "chain") == 0;
     uint64_t at = 0;
@@ -98,7 +113,8 @@ int main(void) {
     char name[16];
     unsigned long long count;
     if (scanf("%15s %llx", name, &count) != 2) return 1;
-    double sum = strcmp(name, "loads") == 0 ? passes(count) : calls(name, count);
+    bool turn = strcmp(name, "turn") == 0, wide = strcmp(name, "wide") == 0;
+    double sum = turn || wide ? turns(count, wide ? 262144.0 : 256.0) : strcmp(name, "loads") == 0 ? passes(count) : calls(name, count);
     uint64_t bits;
     memcpy(&bits, &sum, sizeof bits);
     printf("%016llx\n", (unsigned long long)bits);

@@ -66,7 +66,7 @@ unfolding refusals.scan refusals.lowest refusals.found refusals.namedOf refusals
 open-arm = Unit {0}
 
 open-calls : Type 0
-unfolding checks.badValue checks.valuesVerdict checks.farTurn checks.turnsVerdict checks.badRotation position.visitsOf position.ended position.advancedBy position.closing position.stepBy position.iterate position.answerBy position.wholeOf
+unfolding checks.badValue checks.valuesVerdict checks.farTurn checks.turnsVerdict checks.badRotation position.visitsOf position.ended position.advancedBy position.closing position.stepBy position.iterate position.answerBy position.refusedAt position.wholeOf
 open-calls = Unit {0}
 
 open-matrix : Type 0
