@@ -1,4 +1,4 @@
--- Sine and cosine of half an angle, from the power series, in doubles (document 01, "Number rules"). Definitions only.
+-- Sine and cosine of half an angle, from the power series, in doubles (document 01, "Number rules"; document 02, item 6). Definitions only.
 use mathlib.Core.List.{List, [], _∷_}
 use mathlib.Core.Bool.{Bool, true, false, not, cond, _&&_}
 use mathlib.Core.Path.{_≡_}
