@@ -1,4 +1,4 @@
--- A bound on a product of two doubles: `AtMost B x` says that x is finite and at most B in size. Assumes nothing.
+-- A bound on the size of a double: `AtMost B x` says that x is finite and at most B in size. It is what `within` tests, and it holds of a product. Assumes nothing.
 use mathlib.Core.Path.{_≡_, refl, sym, ap, _∙_, subst}
 use mathlib.Core.Logic.{_⊎_, inl, inr}
 use mathlib.Core.Bool.{Bool, true, false, _&&_, _||_, true≢false}
@@ -21,19 +21,19 @@ AtMost B nan = ⊥
 AtMost B (inf s) = ⊥
 AtMost B (fin s m e) = m * up e ≤ B * down e
 
-lt-or-eq : (a b : ℕ) (t : Bool) → T (ltb a b || (eqb a b && t)) → a ≤ b
-lt-or-eq a b t h = go (ltb a b) (eqb a b) (ltb→lt a b) (eqb→eq a b) h
+-- what `le` of two finite doubles says of their sizes: below, or equal by a test `e`, made in either order
+at-most : (a b : ℕ) (e t : Bool) → (T e → a ≡ b) → T (ltb a b || (e && t)) → a ≤ b
+at-most a b e t f h = go (ltb a b) (ltb→lt a b) h
   where
-    go : (p q : Bool) → (T p → a < b) → (T q → a ≡ b) → T (p || (q && t)) → a ≤ b
-    go true q f g h = le-of-lt (f tt)
-    go false q f g h = le-of-eq (g (and-l q t h))
+    go : (p : Bool) → (T p → a < b) → T (p || (e && t)) → a ≤ b
+    go true g h = le-of-lt (g tt)
+    go false g h = le-of-eq (f (and-l e t h))
+
+lt-or-eq : (a b : ℕ) (t : Bool) → T (ltb a b || (eqb a b && t)) → a ≤ b
+lt-or-eq a b t h = at-most a b (eqb a b) t (eqb→eq a b) h
 
 gt-or-eq : (a b : ℕ) (t : Bool) → T (ltb b a || (eqb a b && t)) → b ≤ a
-gt-or-eq a b t h = go (ltb b a) (eqb a b) (ltb→lt b a) (eqb→eq a b) h
-  where
-    go : (p q : Bool) → (T p → b < a) → (T q → a ≡ b) → T (p || (q && t)) → b ≤ a
-    go true q f g h = le-of-lt (f tt)
-    go false q f g h = le-of-eq (sym (g (and-l q t h)))
+gt-or-eq a b t h = at-most b a (eqb a b) t (λ (e : T (eqb a b)). sym (eqb→eq a b e)) h
 
 -- m / u ≤ n / d and n / d = B
 through : (m u n d B : ℕ) → 0 < d → m * d ≤ n * u → n * 1 ≡ B * d → m ≤ B * u
