@@ -1,11 +1,11 @@
--- A joint's motion, the rule of its origin's rotation, and its frame (document 01, "Model" and "Number rules"). Definitions only.
+-- A joint's motion, the rule of its origin's rotation, and its frame (document 01, "Model" and "Number rules"); its rotor (document 02, item 11). Definitions only.
 use mathlib.Core.Bool.{Bool, cond}
 use mathlib.Core.List.{List, [], _∷_}
 use mathlib.Core.Path.{_≡_}
 use Prim.Native.Nat.{ℕ}
 use lib.Dec.{eqb}
-use lib.Ieee.{Float, lt}
-use Rattle.numbers.specs.Double.{_⊕_, _⊖_, _⊗_, bits, 1·0, absOf}
+use lib.Ieee.{Float, lt, ne}
+use Rattle.numbers.specs.Double.{_⊕_, _⊖_, _⊗_, bits, 0·0, 1·0, absOf}
 use Rattle.half_turn.specs.HalfTurn.{halfTurnOf}
 use Rattle.half_turn.specs.declared.HalfTurn.{HalfTurn}
 use Rattle.half_turn.specs.declared.HalfTurn.the-variants.{Of, OutOfRange}
@@ -66,3 +66,9 @@ unfoldable pub frameOf : Frame → Motion → Float → Frame
 frameOf origin (Turn axis) q = turnedOf origin axis (halfTurnOf q)
 frameOf origin (Slide axis) q = slideOf origin axis q
 frameOf origin Fixed q = origin
+
+-- ---- the rotor
+
+-- THE ROTOR RULE: added to a dot product; where it is a zero of either sign, nothing is
+unfoldable pub withRotor : Float → Float → Float
+withRotor rotor x = cond (ne rotor 0·0) (x ⊕ rotor) x

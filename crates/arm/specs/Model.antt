@@ -1,4 +1,4 @@
--- What a model's lists say of its joints and links (document 01, "Model"). Each definition takes the lists that it needs, lent or a model's own. Definitions only.
+-- What a model's lists say of its joints and links (document 01, "Model"; document 02, item 11). Each definition takes the lists that it needs, lent or a model's own. Definitions only.
 use mathlib.Core.Bool.{Bool, _||_}
 use mathlib.Core.List.{List}
 use Prim.Native.Nat.{ℕ, _+_, _*_, _≤_, _<_}
@@ -16,9 +16,9 @@ use Rattle.arm.specs.declared.model.Link.{Link}
 use Rattle.arm.specs.declared.model.Model.{Model}
 
 -- the model of these lists
-abbrev pub bundle : ℕ → List ℕ → List ℕ → List Float → List Float → List Float → Model
-bundle n parents kinds origins axes links =
-    record { n = n; parents = parents; kinds = kinds; origins = origins; axes = axes; links = links }
+abbrev pub bundle : ℕ → List ℕ → List ℕ → List Float → List Float → List Float → List Float → Model
+bundle n parents kinds origins axes links rotors =
+    record { n = n; parents = parents; kinds = kinds; origins = origins; axes = axes; links = links; rotors = rotors }
 
 unfoldable pub emptyModel : Model
 unfolding tab
@@ -30,6 +30,7 @@ emptyModel =
       origins = tab (λ t. 0·0) 224;
       axes = tab (λ t. 0·0) 96;
       links = tab (λ t. 0·0) 330;
+      rotors = tab (λ t. 0·0) 32;
     }
 
 -- ---- joints and links
@@ -46,6 +47,10 @@ motionOf kinds axes j = motionBy (kindOf kinds j) (vec3At axes (j * 3))
 
 unfoldable pub jointOf : List ℕ → List ℕ → List Float → List Float → ℕ → Joint
 jointOf parents kinds origins axes j = record { parent = parentOf parents j; motion = motionOf kinds axes j; origin = frameAt origins (j * 7) }
+
+-- joint j's rotor
+abbrev pub rotorOf : List Float → ℕ → Float
+rotorOf rotors j = getD rotors j nan
 
 -- mass, first moment, and the symmetric matrix of xx, xy, xz, yy, yz, zz
 unfoldable pub linkOf : List Float → ℕ → Link

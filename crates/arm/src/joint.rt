@@ -1,7 +1,7 @@
-// A joint: its motion, the rule of its origin's rotation, and its frame (`joint.rs`).
+// A joint: its motion, the rule of its origin's rotation, its frame (`joint.rs`), and its rotor.
 ghost use mathlib.Core.Path.{_≡_};
 ghost use Rattle.half_turn.specs.HalfTurn.{halfTurnOf};
-ghost use Rattle.arm.specs.Joint.{notUnit, turnedOf, frameOf};
+ghost use Rattle.arm.specs.Joint.{notUnit, turnedOf, frameOf, withRotor};
 use half_turn::HalfTurn;
 use numbers::double;
 use numbers::quaternion::Quaternion;
@@ -48,4 +48,14 @@ pub fn frame(origin: Frame, motion: Motion, q: f64) -> Frame
         Motion::Slide(axis) => origin.slide(axis, q),
         Motion::Fixed => origin,
     }
+}
+
+// The rotor added to a dot product. A zero is not: +0.0 would make -0.0 another number.
+pub fn with_rotor(rotor: f64, x: f64) -> f64
+    ensures { λ r. ⌜ r ≡ withRotor rotor x ⌝ }
+{
+    if rotor != 0.0 {
+        return x + rotor;
+    }
+    x
 }

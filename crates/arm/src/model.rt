@@ -11,7 +11,7 @@ use numbers::mat3::Mat3;
 use numbers::vec3::Vec3;
 
 // Room for 32 joints and 33 links; what lies past joint n is zero.
-// Seven origin numbers a joint (w, x, y, z, translation), three of its axis; ten numbers a link (mass, first moment, xx, xy, xz, yy, yz, zz).
+// Seven origin numbers a joint (w, x, y, z, translation), three of its axis, one rotor; ten numbers a link (mass, first moment, xx, xy, xz, yy, yz, zz).
 pub struct Model {
     pub n: usize,
     pub parents: [u8; 32],
@@ -19,6 +19,7 @@ pub struct Model {
     pub origins: [f64; 224],
     pub axes: [f64; 96],
     pub links: [f64; 330],
+    pub rotors: [f64; 32],
 }
 
 pub struct Link {
@@ -37,6 +38,7 @@ pub fn empty() -> Model
         origins: [0.0; 224],
         axes: [0.0; 96],
         links: [0.0; 330],
+        rotors: [0.0; 32],
     }
 }
 

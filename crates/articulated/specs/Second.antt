@@ -1,4 +1,4 @@
--- Second pass: an active joint's terms and their tests, and the force that goes to the parent (`forward_dynamics.rs`). Definitions only.
+-- Second pass: an active joint's terms and their tests, and the force that goes to the parent (`forward_dynamics.rs`; document 02, item 11). Definitions only.
 use mathlib.Core.Bool.{cond}
 use mathlib.Core.List.{List}
 use Prim.Native.Nat.{ℕ}
@@ -11,16 +11,17 @@ use Rattle.spatial.specs.Operators.{motionForceDot}
 use Rattle.spatial.specs.Wrench.{plusOf, scaleOf}
 use Rattle.spatial.specs.declared.twist.Twist.{Twist}
 use Rattle.spatial.specs.declared.wrench.Wrench.{Wrench}
+use Rattle.arm.specs.Joint.{withRotor}
 use Rattle.arm.specs.declared.joint.Motion.{Motion}
 use Rattle.inertia.specs.Inertia.{inertiaApply, inertiaApplyJoint, subspaceOf}
 use Rattle.articulated.specs.declared.second.Term.{Term}
 
--- U = I S, D = S · U, and the joint's own force less S · the bias force
-unfoldable pub termOf : Motion → List Float → Wrench → Float → Term
-termOf motion inertia force own =
+-- U = I S, D = S · U and the rotor, and the joint's own force less S · the bias force
+unfoldable pub termOf : Motion → Float → List Float → Wrench → Float → Term
+termOf motion rotor inertia force own =
     let subspace = subspaceOf motion in
     let u = inertiaApplyJoint inertia motion in
-    record { u = u; d = motionForceDot subspace u; bias = own ⊖ motionForceDot subspace force }
+    record { u = u; d = withRotor rotor (motionForceDot subspace u); bias = own ⊖ motionForceDot subspace force }
 
 -- 30: D not finite; 31: D finite and ≤ 0; both name the active number
 unfoldable pub judgedTerm : Float → ℕ → Verdict

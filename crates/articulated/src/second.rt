@@ -1,6 +1,7 @@
 // Second pass: an active joint's terms and their tests, and the force that goes to the parent.
 ghost use mathlib.Core.Path.{_≡_};
 ghost use Rattle.articulated.specs.Second.{termOf, judgedTerm, carriedForce, reducedForce};
+use arm::joint;
 use arm::joint::Motion;
 use numbers::double;
 use refusals::Place;
@@ -16,12 +17,12 @@ pub struct Term {
     pub bias: f64,
 }
 
-pub fn joint_term(motion: Motion, inertia: &[f64; 36], force: Wrench, own: f64) -> Term
-    ensures { λ r. ⌜ r ≡ termOf motion (now (inertia .entry)) force own ⌝ }
+pub fn joint_term(motion: Motion, rotor: f64, inertia: &[f64; 36], force: Wrench, own: f64) -> Term
+    ensures { λ r. ⌜ r ≡ termOf motion rotor (now (inertia .entry)) force own ⌝ }
 {
     let subspace = inertia::joint_motion_subspace(motion);
     let u = inertia::inertia_apply_joint(inertia, motion);
-    let d = operators::motion_force_dot(subspace, u);
+    let d = joint::with_rotor(rotor, operators::motion_force_dot(subspace, u));
     let bias = own - operators::motion_force_dot(subspace, force);
     Term { u, d, bias }
 }

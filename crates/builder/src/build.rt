@@ -2,7 +2,7 @@
 ghost use mathlib.Core.Path.{_≡_};
 ghost use Prim.Native.Nat.{ℕ, _*_, _≤_, _<_};
 ghost use lib.ListN.{length, getD};
-ghost use Rattle.builder.specs.Build.{Listed, byteSlots, doubleSlots, axisSlot, axisSlots, modelOf, builtOf};
+ghost use Rattle.builder.specs.Build.{Listed, byteSlots, doubleSlots, axisSlot, axisSlots, rotorSlots, modelOf, builtOf};
 use crate::axis::Axis;
 use crate::checks;
 use arm::model;
@@ -83,6 +83,26 @@ fn axis_slots<'a>(n: usize, kinds: &'a [u64], axes: &'a [f64]) -> [f64; 96]
     slots
 }
 
+// A fixed joint's is never looked at.
+fn rotor_slots<'a>(n: usize, kinds: &'a [u64], rotors: &'a [f64]) -> [f64; 32]
+    requires { ⌜ (n ≤ length (now kinds)) × (n ≤ length (now rotors)) ⌝ }
+    ensures { λ r. ⌜ r ≡ rotorSlots n (now (kinds .entry)) (now (rotors .entry)) ⌝ }
+{
+    let mut slots = [0.0; 32];
+    let mut j: usize = 0;
+    while j < 32 {
+        let mut x = 0.0;
+        if j < n {
+            if kinds[j] != 2 {
+                x = rotors[j];
+            }
+        }
+        slots[j] = x;
+        j += 1;
+    }
+    slots
+}
+
 fn filled<'a>(
     n: usize,
     parents: &'a [u64],
@@ -90,9 +110,10 @@ fn filled<'a>(
     origins: &'a [f64],
     axes: &'a [f64],
     links: &'a [f64],
+    rotors: &'a [f64],
 ) -> Model
-    requires { ⌜ Listed n (now parents) (now kinds) (length (now axes)) ⌝ }
-    ensures { λ r. ⌜ r ≡ modelOf n (now (parents .entry)) (now (kinds .entry)) (now (origins .entry)) (now (axes .entry)) (now (links .entry)) ⌝ }
+    requires { ⌜ Listed n (now parents) (now kinds) (length (now axes)) (length (now rotors)) ⌝ }
+    ensures { λ r. ⌜ r ≡ modelOf n (now (parents .entry)) (now (kinds .entry)) (now (origins .entry)) (now (axes .entry)) (now (links .entry)) (now (rotors .entry)) ⌝ }
 {
     let parent_slots = byte_slots(n, parents);
     let kind_slots = byte_slots(n, kinds);
@@ -101,6 +122,7 @@ fn filled<'a>(
     let axis_slots = axis_slots(n, kinds, axes);
     let mut link_slots = [0.0; 330];
     double_slots(&mut link_slots, links);
+    let rotor_slots = rotor_slots(n, kinds, rotors);
     Model {
         n,
         parents: parent_slots,
@@ -108,6 +130,7 @@ fn filled<'a>(
         origins: origin_slots,
         axes: axis_slots,
         links: link_slots,
+        rotors: rotor_slots,
     }
 }
 
@@ -119,13 +142,14 @@ pub fn build<'a>(
     origins: &'a [f64],
     axes: &'a [f64],
     links: &'a [f64],
+    rotors: &'a [f64],
 ) -> Built
-    ensures { λ r. ⌜ r ≡ builtOf n (now (parents .entry)) (now (kinds .entry)) (now (origins .entry)) (now (axes .entry)) (now (links .entry)) ⌝ }
+    ensures { λ r. ⌜ r ≡ builtOf n (now (parents .entry)) (now (kinds .entry)) (now (origins .entry)) (now (axes .entry)) (now (links .entry)) (now (rotors .entry)) ⌝ }
 {
-    let verdict = checks::judged(n, parents, kinds, origins, axes, links);
+    let verdict = checks::judged(n, parents, kinds, origins, axes, links, rotors);
     match verdict {
         Verdict::Fine => {
-            let model = filled(n, parents, kinds, origins, axes, links);
+            let model = filled(n, parents, kinds, origins, axes, links, rotors);
             return Built { verdict, model };
         }
         Verdict::Refused(_, _) => {

@@ -77,6 +77,7 @@ fn made<'a>(
         &m.origins,
         &m.axes,
         &m.links,
+        &m.rotors,
         q,
         qd,
         forces,

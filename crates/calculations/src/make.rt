@@ -33,6 +33,7 @@ fn portions<'a>(
     origins: &'a [f64; 224],
     axes: &'a [f64; 96],
     links: &'a [f64; 330],
+    rotors: &'a [f64; 32],
     q: &'a [f64],
     qd: &'a [f64],
     forces: &'a [f64],
@@ -44,7 +45,7 @@ fn portions<'a>(
     out: &mut [f64],
 ) -> Last
     requires { ⌜ (length (now budgets) ≤ 4096) × (length (now counts) ≡ 4096) ⌝ }
-    ensures { λ r. ⌜ (madeBy r (now (counts .exit)) (now (ws .exit)) (now (out .exit)) ≡ inPortions (workBy c n (now (parents .entry)) (now (kinds .entry)) (now (origins .entry)) (now (axes .entry)) (now (links .entry)) (inputsBy (now (q .entry)) (now (qd .entry)) (now (forces .entry)) (now (loaded .entry)) (now (loads .entry)))) (now (budgets .entry)) (from, now (ws .entry), now (out .entry))) × (r .counts ≤ length (now (counts .exit))) × (length (now (counts .exit)) ≡ length (now (counts .entry))) ⌝ }
+    ensures { λ r. ⌜ (madeBy r (now (counts .exit)) (now (ws .exit)) (now (out .exit)) ≡ inPortions (workBy c n (now (parents .entry)) (now (kinds .entry)) (now (origins .entry)) (now (axes .entry)) (now (links .entry)) (now (rotors .entry)) (inputsBy (now (q .entry)) (now (qd .entry)) (now (forces .entry)) (now (loaded .entry)) (now (loads .entry)))) (now (budgets .entry)) (from, now (ws .entry), now (out .entry))) × (r .counts ≤ length (now (counts .exit))) × (length (now (counts .exit)) ≡ length (now (counts .entry))) ⌝ }
 {
     let mut answer = from;
     let mut k = 0;
@@ -60,6 +61,7 @@ fn portions<'a>(
             origins,
             axes,
             links,
+            rotors,
             q,
             qd,
             forces,
@@ -84,6 +86,7 @@ fn divided<'a>(
     origins: &'a [f64; 224],
     axes: &'a [f64; 96],
     links: &'a [f64; 330],
+    rotors: &'a [f64; 32],
     q: &'a [f64],
     qd: &'a [f64],
     forces: &'a [f64],
@@ -95,7 +98,7 @@ fn divided<'a>(
     out: &mut [f64],
 ) -> Last
     requires { ⌜ (length (now budgets) ≤ 4096) × (length (now counts) ≡ 4096) ⌝ }
-    ensures { λ r. ⌜ (madeBy r (now (counts .exit)) (now (ws .exit)) (now (out .exit)) ≡ begunIn (workBy c n (now (parents .entry)) (now (kinds .entry)) (now (origins .entry)) (now (axes .entry)) (now (links .entry)) (inputsBy (now (q .entry)) (now (qd .entry)) (now (forces .entry)) (now (loaded .entry)) (now (loads .entry)))) (now (budgets .entry)) (startOf (workBy c n (now (parents .entry)) (now (kinds .entry)) (now (origins .entry)) (now (axes .entry)) (now (links .entry)) (inputsBy (now (q .entry)) (now (qd .entry)) (now (forces .entry)) (now (loaded .entry)) (now (loads .entry)))) (now (ws .entry)) (now (out .entry)))) × (r .counts ≤ length (now (counts .exit))) × (length (now (counts .exit)) ≡ length (now (counts .entry))) ⌝ }
+    ensures { λ r. ⌜ (madeBy r (now (counts .exit)) (now (ws .exit)) (now (out .exit)) ≡ begunIn (workBy c n (now (parents .entry)) (now (kinds .entry)) (now (origins .entry)) (now (axes .entry)) (now (links .entry)) (now (rotors .entry)) (inputsBy (now (q .entry)) (now (qd .entry)) (now (forces .entry)) (now (loaded .entry)) (now (loads .entry)))) (now (budgets .entry)) (startOf (workBy c n (now (parents .entry)) (now (kinds .entry)) (now (origins .entry)) (now (axes .entry)) (now (links .entry)) (now (rotors .entry)) (inputsBy (now (q .entry)) (now (qd .entry)) (now (forces .entry)) (now (loaded .entry)) (now (loads .entry)))) (now (ws .entry)) (now (out .entry)))) × (r .counts ≤ length (now (counts .exit))) × (length (now (counts .exit)) ≡ length (now (counts .entry))) ⌝ }
 {
     let begun = dynamics::start(
         c,
@@ -105,6 +108,7 @@ fn divided<'a>(
         origins,
         axes,
         links,
+        rotors,
         q,
         qd,
         forces,
@@ -129,6 +133,7 @@ fn divided<'a>(
         origins,
         axes,
         links,
+        rotors,
         q,
         qd,
         forces,
@@ -150,6 +155,7 @@ fn once<'a>(
     origins: &'a [f64; 224],
     axes: &'a [f64; 96],
     links: &'a [f64; 330],
+    rotors: &'a [f64; 32],
     q: &'a [f64],
     qd: &'a [f64],
     forces: &'a [f64],
@@ -161,7 +167,7 @@ fn once<'a>(
     out: &mut [f64],
 ) -> Last
     requires { ⌜ (length (now budgets) ≤ 4096) × (length (now counts) ≡ 4096) ⌝ }
-    ensures { λ r. ⌜ (madeBy r (now (counts .exit)) (now (ws .exit)) (now (out .exit)) ≡ onceOf (workBy c n (now (parents .entry)) (now (kinds .entry)) (now (origins .entry)) (now (axes .entry)) (now (links .entry)) (inputsBy (now (q .entry)) (now (qd .entry)) (now (forces .entry)) (now (loaded .entry)) (now (loads .entry)))) (now (budgets .entry)) (now (ws .entry)) (now (out .entry))) × (r .counts ≤ length (now (counts .exit))) × (length (now (counts .exit)) ≡ length (now (counts .entry))) ⌝ }
+    ensures { λ r. ⌜ (madeBy r (now (counts .exit)) (now (ws .exit)) (now (out .exit)) ≡ onceOf (workBy c n (now (parents .entry)) (now (kinds .entry)) (now (origins .entry)) (now (axes .entry)) (now (links .entry)) (now (rotors .entry)) (inputsBy (now (q .entry)) (now (qd .entry)) (now (forces .entry)) (now (loaded .entry)) (now (loads .entry)))) (now (budgets .entry)) (now (ws .entry)) (now (out .entry))) × (r .counts ≤ length (now (counts .exit))) × (length (now (counts .exit)) ≡ length (now (counts .entry))) ⌝ }
 {
     if budgets.len() == 0 {
         let answer = dynamics::whole(
@@ -172,6 +178,7 @@ fn once<'a>(
             origins,
             axes,
             links,
+            rotors,
             q,
             qd,
             forces,
@@ -191,6 +198,7 @@ fn once<'a>(
         origins,
         axes,
         links,
+        rotors,
         q,
         qd,
         forces,
@@ -212,6 +220,7 @@ fn times<'a>(
     origins: &'a [f64; 224],
     axes: &'a [f64; 96],
     links: &'a [f64; 330],
+    rotors: &'a [f64; 32],
     q: &'a [f64],
     qd: &'a [f64],
     forces: &'a [f64],
@@ -223,7 +232,7 @@ fn times<'a>(
     out: &mut [f64],
 ) -> Last
     requires { ⌜ (length (now budgets) ≤ 4096) × (length (now counts) ≡ 4096) ⌝ }
-    ensures { λ r. ⌜ (madeBy r (now (counts .exit)) (now (ws .exit)) (now (out .exit)) ≡ timesOf (workBy c n (now (parents .entry)) (now (kinds .entry)) (now (origins .entry)) (now (axes .entry)) (now (links .entry)) (inputsBy (now (q .entry)) (now (qd .entry)) (now (forces .entry)) (now (loaded .entry)) (now (loads .entry)))) (now (budgets .entry)) count (now (ws .entry)) (now (out .entry))) × (r .counts ≤ length (now (counts .exit))) × (length (now (counts .exit)) ≡ length (now (counts .entry))) ⌝ }
+    ensures { λ r. ⌜ (madeBy r (now (counts .exit)) (now (ws .exit)) (now (out .exit)) ≡ timesOf (workBy c n (now (parents .entry)) (now (kinds .entry)) (now (origins .entry)) (now (axes .entry)) (now (links .entry)) (now (rotors .entry)) (inputsBy (now (q .entry)) (now (qd .entry)) (now (forces .entry)) (now (loaded .entry)) (now (loads .entry)))) (now (budgets .entry)) count (now (ws .entry)) (now (out .entry))) × (r .counts ≤ length (now (counts .exit))) × (length (now (counts .exit)) ≡ length (now (counts .entry))) ⌝ }
 {
     let mut last = once(
         c,
@@ -233,6 +242,7 @@ fn times<'a>(
         origins,
         axes,
         links,
+        rotors,
         q,
         qd,
         forces,
@@ -253,6 +263,7 @@ fn times<'a>(
             origins,
             axes,
             links,
+            rotors,
             q,
             qd,
             forces,
@@ -277,6 +288,7 @@ pub fn make<'a>(
     origins: &'a [f64; 224],
     axes: &'a [f64; 96],
     links: &'a [f64; 330],
+    rotors: &'a [f64; 32],
     q: &'a [f64],
     qd: &'a [f64],
     forces: &'a [f64],
@@ -288,7 +300,7 @@ pub fn make<'a>(
     out: &mut [f64],
 ) -> Last
     requires { ⌜ (length (now budgets) ≤ 4096) × (length (now counts) ≡ 4096) ⌝ }
-    ensures { λ r. ⌜ (madeBy r (now (counts .exit)) (now (ws .exit)) (now (out .exit)) ≡ madeOf how (workBy c n (now (parents .entry)) (now (kinds .entry)) (now (origins .entry)) (now (axes .entry)) (now (links .entry)) (inputsBy (now (q .entry)) (now (qd .entry)) (now (forces .entry)) (now (loaded .entry)) (now (loads .entry)))) (now (budgets .entry)) (now (ws .entry)) (now (out .entry))) × (r .counts ≤ length (now (counts .exit))) × (length (now (counts .exit)) ≡ length (now (counts .entry))) ⌝ }
+    ensures { λ r. ⌜ (madeBy r (now (counts .exit)) (now (ws .exit)) (now (out .exit)) ≡ madeOf how (workBy c n (now (parents .entry)) (now (kinds .entry)) (now (origins .entry)) (now (axes .entry)) (now (links .entry)) (now (rotors .entry)) (inputsBy (now (q .entry)) (now (qd .entry)) (now (forces .entry)) (now (loaded .entry)) (now (loads .entry)))) (now (budgets .entry)) (now (ws .entry)) (now (out .entry))) × (r .counts ≤ length (now (counts .exit))) × (length (now (counts .exit)) ≡ length (now (counts .entry))) ⌝ }
 {
     match how {
         How::Times(count) => times(
@@ -300,6 +312,7 @@ pub fn make<'a>(
             origins,
             axes,
             links,
+            rotors,
             q,
             qd,
             forces,
@@ -321,6 +334,7 @@ pub fn make<'a>(
                 origins,
                 axes,
                 links,
+                rotors,
                 q,
                 qd,
                 forces,

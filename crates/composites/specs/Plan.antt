@@ -1,9 +1,10 @@
--- The workspace's places (docs/LAYOUT.md), and the entries of the matrix in it. Definitions only.
+-- The workspace's places (docs/LAYOUT.md), and the entries of the matrix in it (document 02, item 11 for the rotor). Definitions only.
 use mathlib.Core.List.{List}
 use Prim.Native.Nat.{ℕ, _+_, _*_, _≤_}
-use lib.ListN.{set}
-use lib.Ieee.{Float}
+use lib.ListN.{set, getD}
+use lib.Ieee.{Float, nan}
 use Rattle.spatial.specs.declared.wrench.Wrench.{Wrench}
+use Rattle.arm.specs.Joint.{withRotor}
 use Rattle.calls.specs.declared.plan.Plan.{Plan}
 
 -- ---- the places
@@ -45,6 +46,10 @@ putSix p column w ws =
     (putPair p 2 column (w .torque .z)
     (putPair p 1 column (w .torque .y)
     (putPair p 0 column (w .torque .x) ws)))))
+
+-- a joint's diagonal entry with its rotor
+unfoldable pub addRotor : Plan → ℕ → Float → List Float → List Float
+addRotor p row rotor ws = let at = placeOf p row row in set ws at (withRotor rotor (getD ws at nan))
 
 -- ---- what the steps of the code promise each other
 

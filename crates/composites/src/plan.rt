@@ -6,7 +6,8 @@ ghost use Rattle.arm.specs.Model.{kindOf};
 ghost use Rattle.slots.specs.Slots.{putWrench};
 ghost use Rattle.arm.specs.Topology.{activesOf};
 ghost use Rattle.calls.specs.Plan.{Fit};
-ghost use Rattle.composites.specs.Plan.{Room, roomOf, placeOf, putPair, putSix};
+ghost use Rattle.composites.specs.Plan.{Room, roomOf, placeOf, putPair, putSix, addRotor};
+use arm::joint;
 use arm::topology;
 use calls::plan::Plan;
 use spatial::wrench::Wrench;
@@ -79,4 +80,14 @@ pub fn write_wrench_to_column(p: Plan, ws: &mut [f64], column: usize, w: Wrench)
 {
     let at = place(p, 0, column);
     slots::put_wrench(ws, at, w);
+}
+
+// The rotor of a row's joint, on its diagonal entry alone.
+pub fn add_rotor(p: Plan, ws: &mut [f64], row: usize, rotor: f64)
+    requires { ⌜ Room p (length (now ws)) × (row < p .side) ⌝ }
+    ensures { λ _. ⌜ now (ws .exit) ≡ addRotor p row rotor (now (ws .entry)) ⌝ }
+{
+    let at = place(p, row, row);
+    let entry = slots::number_at(ws, at);
+    slots::put_number(ws, at, joint::with_rotor(rotor, entry));
 }

@@ -21,8 +21,8 @@ workOf (Matrix mode) m i = massMatrix mode m (i .q)
 workOf (Forward mode) m i = forwardDynamics mode m i
 
 -- the calculation on a model's lists
-abbrev pub workBy : Calculation → ℕ → List ℕ → List ℕ → List Float → List Float → List Float → Inputs → Work
-workBy c n parents kinds origins axes links i = workOf c (bundle n parents kinds origins axes links) i
+abbrev pub workBy : Calculation → ℕ → List ℕ → List ℕ → List Float → List Float → List Float → List Float → Inputs → Work
+workBy c n parents kinds origins axes links rotors i = workOf c (bundle n parents kinds origins axes links rotors) i
 
 -- ---- what the steps of the code promise each other
 

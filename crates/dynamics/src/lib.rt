@@ -119,6 +119,7 @@ fn ran<'a>(
     origins: &'a [f64; 224],
     axes: &'a [f64; 96],
     links: &'a [f64; 330],
+    rotors: &'a [f64; 32],
     numbers: &'a [u8; 33],
     q: &'a [f64],
     qd: &'a [f64],
@@ -131,7 +132,7 @@ fn ran<'a>(
     budget: usize,
 ) -> Answer
     requires { ⌜ (now numbers ≡ activeNumbers (now kinds)) × (a ≡ activesOf (now kinds) n) × (verdictOf c n (now parents) (now kinds) (inputsBy (now q) (now qd) (now forces) (now loaded) (now loads)) (length (now ws)) (length (now out)) ≡ Fine) × Within (isMatrix c) (planBy (floats c) n a) from ⌝ }
-    ensures { λ r. ⌜ (r, now (ws .exit), now (out .exit)) ≡ ran (workBy c n (now (parents .entry)) (now (kinds .entry)) (now (origins .entry)) (now (axes .entry)) (now (links .entry)) (inputsBy (now (q .entry)) (now (qd .entry)) (now (forces .entry)) (now (loaded .entry)) (now (loads .entry)))) budget from (now (ws .entry)) (now (out .entry)) ⌝ }
+    ensures { λ r. ⌜ (r, now (ws .exit), now (out .exit)) ≡ ran (workBy c n (now (parents .entry)) (now (kinds .entry)) (now (origins .entry)) (now (axes .entry)) (now (links .entry)) (now (rotors .entry)) (inputsBy (now (q .entry)) (now (qd .entry)) (now (forces .entry)) (now (loaded .entry)) (now (loads .entry)))) budget from (now (ws .entry)) (now (out .entry)) ⌝ }
 {
     let p = plan::planned(c.floats(), n, a);
     match c {
@@ -144,6 +145,7 @@ fn ran<'a>(
                 origins,
                 axes,
                 links,
+                rotors,
                 numbers,
                 q,
                 ws,
@@ -165,6 +167,7 @@ fn ran<'a>(
                 origins,
                 axes,
                 links,
+                rotors,
                 numbers,
                 q,
                 qd,
@@ -190,6 +193,7 @@ pub fn start<'a>(
     origins: &'a [f64; 224],
     axes: &'a [f64; 96],
     links: &'a [f64; 330],
+    rotors: &'a [f64; 32],
     q: &'a [f64],
     qd: &'a [f64],
     forces: &'a [f64],
@@ -198,7 +202,7 @@ pub fn start<'a>(
     ws: &mut [f64],
     out: &[f64],
 ) -> Answer
-    ensures { λ r. ⌜ (r, now (ws .exit), now (out .entry)) ≡ startOf (workBy c n (now (parents .entry)) (now (kinds .entry)) (now (origins .entry)) (now (axes .entry)) (now (links .entry)) (inputsBy (now (q .entry)) (now (qd .entry)) (now (forces .entry)) (now (loaded .entry)) (now (loads .entry)))) (now (ws .entry)) (now (out .entry)) ⌝ }
+    ensures { λ r. ⌜ (r, now (ws .exit), now (out .entry)) ≡ startOf (workBy c n (now (parents .entry)) (now (kinds .entry)) (now (origins .entry)) (now (axes .entry)) (now (links .entry)) (now (rotors .entry)) (inputsBy (now (q .entry)) (now (qd .entry)) (now (forces .entry)) (now (loaded .entry)) (now (loads .entry)))) (now (ws .entry)) (now (out .entry)) ⌝ }
 {
     let numbers = topology::active_numbers(kinds);
     let room = ws.len();
@@ -238,6 +242,7 @@ pub fn portion<'a>(
     origins: &'a [f64; 224],
     axes: &'a [f64; 96],
     links: &'a [f64; 330],
+    rotors: &'a [f64; 32],
     q: &'a [f64],
     qd: &'a [f64],
     forces: &'a [f64],
@@ -247,7 +252,7 @@ pub fn portion<'a>(
     out: &mut [f64],
     budget: usize,
 ) -> Answer
-    ensures { λ r. ⌜ (r, now (ws .exit), now (out .exit)) ≡ portionOf (workBy c n (now (parents .entry)) (now (kinds .entry)) (now (origins .entry)) (now (axes .entry)) (now (links .entry)) (inputsBy (now (q .entry)) (now (qd .entry)) (now (forces .entry)) (now (loaded .entry)) (now (loads .entry)))) budget position (now (ws .entry)) (now (out .entry)) ⌝ }
+    ensures { λ r. ⌜ (r, now (ws .exit), now (out .exit)) ≡ portionOf (workBy c n (now (parents .entry)) (now (kinds .entry)) (now (origins .entry)) (now (axes .entry)) (now (links .entry)) (now (rotors .entry)) (inputsBy (now (q .entry)) (now (qd .entry)) (now (forces .entry)) (now (loaded .entry)) (now (loads .entry)))) budget position (now (ws .entry)) (now (out .entry)) ⌝ }
 {
     let numbers = topology::active_numbers(kinds);
     let room = ws.len();
@@ -279,6 +284,7 @@ pub fn portion<'a>(
                 origins,
                 axes,
                 links,
+                rotors,
                 &numbers,
                 q,
                 qd,
@@ -303,6 +309,7 @@ pub fn whole<'a>(
     origins: &'a [f64; 224],
     axes: &'a [f64; 96],
     links: &'a [f64; 330],
+    rotors: &'a [f64; 32],
     q: &'a [f64],
     qd: &'a [f64],
     forces: &'a [f64],
@@ -311,7 +318,7 @@ pub fn whole<'a>(
     ws: &mut [f64],
     out: &mut [f64],
 ) -> Answer
-    ensures { λ r. ⌜ (r, now (ws .exit), now (out .exit)) ≡ wholeOf (workBy c n (now (parents .entry)) (now (kinds .entry)) (now (origins .entry)) (now (axes .entry)) (now (links .entry)) (inputsBy (now (q .entry)) (now (qd .entry)) (now (forces .entry)) (now (loaded .entry)) (now (loads .entry)))) (now (ws .entry)) (now (out .entry)) ⌝ }
+    ensures { λ r. ⌜ (r, now (ws .exit), now (out .exit)) ≡ wholeOf (workBy c n (now (parents .entry)) (now (kinds .entry)) (now (origins .entry)) (now (axes .entry)) (now (links .entry)) (now (rotors .entry)) (inputsBy (now (q .entry)) (now (qd .entry)) (now (forces .entry)) (now (loaded .entry)) (now (loads .entry)))) (now (ws .entry)) (now (out .entry)) ⌝ }
 {
     let numbers = topology::active_numbers(kinds);
     let room = ws.len();
@@ -347,6 +354,7 @@ pub fn whole<'a>(
                 origins,
                 axes,
                 links,
+                rotors,
                 &numbers,
                 q,
                 qd,

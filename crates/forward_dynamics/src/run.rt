@@ -28,6 +28,7 @@ fn step<'a>(
     origins: &'a [f64; 224],
     axes: &'a [f64; 96],
     links: &'a [f64; 330],
+    rotors: &'a [f64; 32],
     numbers: &'a [u8; 33],
     q: &'a [f64],
     qd: &'a [f64],
@@ -39,7 +40,7 @@ fn step<'a>(
     s: Position,
 ) -> Progress
     requires { ⌜ Ready p (now parents) (now kinds) (now numbers) (inputsBy (now q) (now qd) (now forces) (now loaded) (now loads)) (length (now ws)) (length (now out)) × Within false p s × (s .closed ≡ false) ⌝ }
-    ensures { λ t. ⌜ ((t, now (ws .exit), now (out .exit)) ≡ landed (resultsPlace (p .n)) (opening s, now (ws .entry), now (out .entry)) (visitsBy p rotation velocity (now (parents .entry)) (now (kinds .entry)) (now (origins .entry)) (now (axes .entry)) (now (links .entry)) (inputsBy (now (q .entry)) (now (qd .entry)) (now (forces .entry)) (now (loaded .entry)) (now (loads .entry))) (s .visits) (now (ws .entry)))) × Within false p (t .position) ⌝ }
+    ensures { λ t. ⌜ ((t, now (ws .exit), now (out .exit)) ≡ landed (resultsPlace (p .n)) (opening s, now (ws .entry), now (out .entry)) (visitsBy p rotation velocity (now (parents .entry)) (now (kinds .entry)) (now (origins .entry)) (now (axes .entry)) (now (links .entry)) (now (rotors .entry)) (inputsBy (now (q .entry)) (now (qd .entry)) (now (forces .entry)) (now (loaded .entry)) (now (loads .entry))) (s .visits) (now (ws .entry)))) × Within false p (t .position) ⌝ }
 {
     let n = p.n;
     let at = s.visits;
@@ -52,6 +53,7 @@ fn step<'a>(
         origins,
         axes,
         links,
+        rotors,
         numbers,
         q,
         qd,
@@ -75,6 +77,7 @@ pub fn run<'a>(
     origins: &'a [f64; 224],
     axes: &'a [f64; 96],
     links: &'a [f64; 330],
+    rotors: &'a [f64; 32],
     numbers: &'a [u8; 33],
     q: &'a [f64],
     qd: &'a [f64],
@@ -87,7 +90,7 @@ pub fn run<'a>(
     budget: usize,
 ) -> Progress
     requires { ⌜ Ready p (now parents) (now kinds) (now numbers) (inputsBy (now q) (now qd) (now forces) (now loaded) (now loads)) (length (now ws)) (length (now out)) × Within false p from ⌝ }
-    ensures { λ t. ⌜ (t, now (ws .exit), now (out .exit)) ≡ iterate (stepBy (visitsBy p rotation velocity (now (parents .entry)) (now (kinds .entry)) (now (origins .entry)) (now (axes .entry)) (now (links .entry)) (inputsBy (now (q .entry)) (now (qd .entry)) (now (forces .entry)) (now (loaded .entry)) (now (loads .entry)))) (resultsPlace (p .n))) budget (opening from, now (ws .entry), now (out .entry)) ⌝ }
+    ensures { λ t. ⌜ (t, now (ws .exit), now (out .exit)) ≡ iterate (stepBy (visitsBy p rotation velocity (now (parents .entry)) (now (kinds .entry)) (now (origins .entry)) (now (axes .entry)) (now (links .entry)) (now (rotors .entry)) (inputsBy (now (q .entry)) (now (qd .entry)) (now (forces .entry)) (now (loaded .entry)) (now (loads .entry)))) (resultsPlace (p .n))) budget (opening from, now (ws .entry), now (out .entry)) ⌝ }
 {
     let mut s = Progress {
         position: from,
@@ -109,6 +112,7 @@ pub fn run<'a>(
             origins,
             axes,
             links,
+            rotors,
             numbers,
             q,
             qd,

@@ -8,7 +8,6 @@ use Rattle.spatial.specs.declared.twist.Twist.{Twist}
 use Rattle.slots.specs.Slots.{twistAt, wrenchAt, putFrame, putTwist, putWrench, putMat6}
 use Rattle.arm.specs.Model.{jointOf, linkOf}
 use Rattle.arm.specs.Topology.{valueOf, jointFrame}
-use Rattle.arm.specs.declared.model.Model.{Model}
 use Rattle.articulated.specs.First.{bodyInertia, firstOf}
 use Rattle.articulated.specs.declared.first.First.{First}
 use Rattle.forward_slots.specs.Layout.{framePlace, velocityPlace, biasPlace, inertiaPlace, forcePlace, loadPlace}
@@ -27,7 +26,7 @@ firstAt velocity parents kinds origins axes q qd inertia j ws =
     let joint = jointOf parents kinds origins axes j in
     firstOf (jointFrame parents kinds origins axes q j) (joint .motion) (valueOf kinds qd j) (parentTwist ws (joint .parent) velocity (velocityPlace (joint .parent - 1))) inertia (wrenchAt ws (loadPlace j))
 
-unfoldable pub firstVisit : Twist → Model → List Float → List Float → ℕ → List Float → List Float
-firstVisit velocity m q qd j ws =
-    let inertia = bodyInertia (linkOf (m .links) (j + 1)) in
-    putMat6 (putFirst ws j (firstAt velocity (m .parents) (m .kinds) (m .origins) (m .axes) q qd inertia j ws)) (inertiaPlace j) inertia
+unfoldable pub firstVisit : Twist → List ℕ → List ℕ → List Float → List Float → List Float → List Float → List Float → ℕ → List Float → List Float
+firstVisit velocity parents kinds origins axes links q qd j ws =
+    let inertia = bodyInertia (linkOf links (j + 1)) in
+    putMat6 (putFirst ws j (firstAt velocity parents kinds origins axes q qd inertia j ws)) (inertiaPlace j) inertia

@@ -6,7 +6,7 @@ use lib.Dec.{eqb}
 use lib.Ieee.{Float}
 use Rattle.refusals.specs.declared.Verdict.{Verdict}
 use Rattle.refusals.specs.declared.Verdict.the-variants.{Fine}
-use Rattle.arm.specs.Model.{parentOf, motionOf}
+use Rattle.arm.specs.Model.{parentOf, motionOf, rotorOf}
 use Rattle.arm.specs.Topology.{activesOf}
 use Rattle.arm.specs.declared.joint.Motion.{Motion}
 use Rattle.calls.specs.declared.plan.Plan.{Plan}
@@ -23,8 +23,8 @@ unfoldable pub propagated : Plan → Motion → ℕ → ℕ → List Float → L
 propagated p motion parent j ws =
     cond (eqb parent 0) (cond (eqb (p .lead) 0) ws (addInto motion (rootInertiaPlace (p .n)) j ws)) (addInto motion (inertiaPlace (parent - 1)) j ws)
 
-unfoldable pub secondVisit : Plan → List ℕ → List ℕ → List Float → List Float → ℕ → List Float → Verdict × List Float
-secondVisit p parents kinds axes forces j ws =
+unfoldable pub secondVisit : Plan → List ℕ → List ℕ → List Float → List Float → List Float → ℕ → List Float → Verdict × List Float
+secondVisit p parents kinds axes rotors forces j ws =
     let motion = motionOf kinds axes j in
-    let e = eliminated p motion (activesOf kinds j) forces j ws in
+    let e = eliminated p motion (rotorOf rotors j) (activesOf kinds j) forces j ws in
     unlessRefused (e .0) (e .1) (Fine, propagated p motion (parentOf parents j) j (e .1))

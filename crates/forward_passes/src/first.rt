@@ -2,7 +2,6 @@
 ghost use mathlib.Core.Path.{_≡_};
 ghost use Prim.Native.Nat.{_+_, _-_, _≤_, _<_};
 ghost use lib.ListN.{length};
-ghost use Rattle.arm.specs.Model.{bundle};
 ghost use Rattle.arm.specs.Topology.{activesOf};
 ghost use Rattle.calls.specs.Plan.{Fit};
 ghost use Rattle.forward_slots.specs.Layout.{framePlace, Room};
@@ -85,7 +84,7 @@ pub fn first_visit<'a>(
     j: usize,
 )
     requires { ⌜ Fit p (now parents) (now kinds) (now numbers) × Room p (length (now ws)) × (j < p .n) × (length (now q) ≡ activesOf (now kinds) (p .n)) × (length (now qd) ≡ activesOf (now kinds) (p .n)) ⌝ }
-    ensures { λ _. ⌜ now (ws .exit) ≡ firstVisit velocity (bundle (p .n) (now (parents .entry)) (now (kinds .entry)) (now (origins .entry)) (now (axes .entry)) (now (links .entry))) (now (q .entry)) (now (qd .entry)) j (now (ws .entry)) ⌝ }
+    ensures { λ _. ⌜ now (ws .exit) ≡ firstVisit velocity (now (parents .entry)) (now (kinds .entry)) (now (origins .entry)) (now (axes .entry)) (now (links .entry)) (now (q .entry)) (now (qd .entry)) j (now (ws .entry)) ⌝ }
 {
     let link = model::link_at(links, j + 1);
     let inertia = first::body_inertia(link);

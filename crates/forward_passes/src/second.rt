@@ -56,17 +56,18 @@ pub fn second_visit<'a>(
     parents: &'a [u8; 32],
     kinds: &'a [u8; 32],
     axes: &'a [f64; 96],
+    rotors: &'a [f64; 32],
     numbers: &'a [u8; 33],
     forces: &'a [f64],
     ws: &mut [f64],
     j: usize,
 ) -> Verdict
     requires { ⌜ Fit p (now parents) (now kinds) (now numbers) × Room p (length (now ws)) × (j < p .n) × (length (now forces) ≡ p .side) ⌝ }
-    ensures { λ r. ⌜ (r, now (ws .exit)) ≡ secondVisit p (now (parents .entry)) (now (kinds .entry)) (now (axes .entry)) (now (forces .entry)) j (now (ws .entry)) ⌝ }
+    ensures { λ r. ⌜ (r, now (ws .exit)) ≡ secondVisit p (now (parents .entry)) (now (kinds .entry)) (now (axes .entry)) (now (rotors .entry)) (now (forces .entry)) j (now (ws .entry)) ⌝ }
 {
     let motion = model::motion_at(kinds, axes, j);
     let number = topology::number_at(kinds, numbers, j);
-    let v = eliminate::eliminate(p, motion, number, forces, ws, j);
+    let v = eliminate::eliminate(p, motion, rotors[j], number, forces, ws, j);
     let Verdict::Fine = v else {
         return v;
     };

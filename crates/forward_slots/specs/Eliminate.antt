@@ -22,8 +22,8 @@ fixedBy (Slide axis) = false
 fixedBy Fixed = true
 
 -- an active joint's terms, of the whole inertia, with the force at a place of the forces
-unfoldable pub newTerm : Motion → List Float → ℕ → ℕ → List Float → Term
-newTerm motion forces j place ws = termOf motion (mat6At ws (inertiaPlace j)) (wrenchAt ws (forcePlace j)) (getD forces place nan)
+unfoldable pub newTerm : Motion → Float → List Float → ℕ → ℕ → List Float → Term
+newTerm motion rotor forces j place ws = termOf motion rotor (mat6At ws (inertiaPlace j)) (wrenchAt ws (forcePlace j)) (getD forces place nan)
 
 -- a visit that refuses changes nothing more
 unfoldable pub unlessRefused : Verdict → List Float → Verdict × List Float → Verdict × List Float
@@ -35,5 +35,5 @@ unfoldable pub keptTerm : Term → ℕ → ℕ → List Float → Verdict × Lis
 keptTerm t number j ws = unlessRefused (judgedTerm (t .d) number) ws (Fine, putTerm ws (termPlace j) t)
 
 -- `number` is the joint's active number
-unfoldable pub eliminated : Plan → Motion → ℕ → List Float → ℕ → List Float → Verdict × List Float
-eliminated p motion number forces j ws = cond (fixedBy motion) (Fine, ws) (keptTerm (newTerm motion forces j (p .lead + number) ws) number j ws)
+unfoldable pub eliminated : Plan → Motion → Float → ℕ → List Float → ℕ → List Float → Verdict × List Float
+eliminated p motion rotor number forces j ws = cond (fixedBy motion) (Fine, ws) (keptTerm (newTerm motion rotor forces j (p .lead + number) ws) number j ws)

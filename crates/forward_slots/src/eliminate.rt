@@ -15,30 +15,38 @@ use calls::plan::Plan;
 use refusals::Verdict;
 
 // Active joint j's terms, with the force at a place. U comes from the whole inertia, what the joint's own motion takes up included.
-fn new_term<'a>(motion: Motion, forces: &'a [f64], ws: &'a [f64], j: usize, place: usize) -> Term
+fn new_term<'a>(
+    motion: Motion,
+    rotor: f64,
+    forces: &'a [f64],
+    ws: &'a [f64],
+    j: usize,
+    place: usize,
+) -> Term
     requires { ⌜ (j < 32) × (framePlace (j + 1) ≤ length (now ws)) × (place < length (now forces)) ⌝ }
-    ensures { λ r. ⌜ r ≡ newTerm motion (now (forces .entry)) j place (now (ws .entry)) ⌝ }
+    ensures { λ r. ⌜ r ≡ newTerm motion rotor (now (forces .entry)) j place (now (ws .entry)) ⌝ }
 {
     let articulated = whole::inertia_at(ws, j);
     let force = slots::wrench_at(ws, j * layout::JOINT + layout::FORCE);
     let own = slots::number_at(forces, place);
-    second::joint_term(motion, &articulated, force, own)
+    second::joint_term(motion, rotor, &articulated, force, own)
 }
 
 // They are tested, then kept.
 fn keep_term<'a>(
     p: Plan,
     motion: Motion,
+    rotor: f64,
     number: usize,
     forces: &'a [f64],
     ws: &mut [f64],
     j: usize,
 ) -> Verdict
     requires { ⌜ Room p (length (now ws)) × (j < p .n) × (p .lead + number < length (now forces)) ⌝ }
-    ensures { λ r. ⌜ (r, now (ws .exit)) ≡ keptTerm (newTerm motion (now (forces .entry)) j (p .lead + number) (now (ws .entry))) number j (now (ws .entry)) ⌝ }
+    ensures { λ r. ⌜ (r, now (ws .exit)) ≡ keptTerm (newTerm motion rotor (now (forces .entry)) j (p .lead + number) (now (ws .entry))) number j (now (ws .entry)) ⌝ }
 {
     let lead = p.lead;
-    let t = new_term(motion, forces, ws, j, lead + number);
+    let t = new_term(motion, rotor, forces, ws, j, lead + number);
     let v = second::judged_term(t.d, number);
     let Verdict::Fine = v else {
         return v;
@@ -51,17 +59,18 @@ fn keep_term<'a>(
 pub fn eliminate<'a>(
     p: Plan,
     motion: Motion,
+    rotor: f64,
     number: usize,
     forces: &'a [f64],
     ws: &mut [f64],
     j: usize,
 ) -> Verdict
     requires { ⌜ Room p (length (now ws)) × (j < p .n) × ((kindNumber motion ≡ 2 → ⊥) → p .lead + number < length (now forces)) ⌝ }
-    ensures { λ r. ⌜ (r, now (ws .exit)) ≡ eliminated p motion number (now (forces .entry)) j (now (ws .entry)) ⌝ }
+    ensures { λ r. ⌜ (r, now (ws .exit)) ≡ eliminated p motion rotor number (now (forces .entry)) j (now (ws .entry)) ⌝ }
 {
     match motion {
-        Motion::Turn(_) => keep_term(p, motion, number, forces, ws, j),
-        Motion::Slide(_) => keep_term(p, motion, number, forces, ws, j),
+        Motion::Turn(_) => keep_term(p, motion, rotor, number, forces, ws, j),
+        Motion::Slide(_) => keep_term(p, motion, rotor, number, forces, ws, j),
         Motion::Fixed => Verdict::Fine,
     }
 }

@@ -29,8 +29,8 @@ outcomeOf (verdict.Refused number p) last = Refused number p
 unfoldable pub passVisit : Plan → Quaternion → Twist → Model → List Float → List Float → List Float → ℕ → List Float → Verdict × List Float
 passVisit p rotation velocity m q qd forces at ws =
     let n = p .n in
-    cond (ltb at n) (Fine, firstVisit velocity m q qd at ws)
-    (cond (ltb at (n + n)) (secondVisit p (m .parents) (m .kinds) (m .axes) forces (n + n - 1 - at) ws)
+    cond (ltb at n) (Fine, firstVisit velocity (m .parents) (m .kinds) (m .origins) (m .axes) (m .links) q qd at ws)
+    (cond (ltb at (n + n)) (secondVisit p (m .parents) (m .kinds) (m .axes) (m .rotors) forces (n + n - 1 - at) ws)
     (cond (eqb at (n + n)) (rootVisit p rotation velocity forces ws)
     (thirdVisit p (m .parents) (m .kinds) (m .axes) (at - (n + n) - 1) ws)))
 
@@ -42,5 +42,5 @@ visitOf p rotation velocity m q qd forces loaded loads at ws =
 -- ---- what the steps of the code promise each other
 
 -- the visits of a model's lists
-abbrev pub visitsBy : Plan → Quaternion → Twist → List ℕ → List ℕ → List Float → List Float → List Float → Inputs → ℕ → List Float → Outcome × List Float
-visitsBy p rotation velocity parents kinds origins axes links i = visitOf p rotation velocity (bundle (p .n) parents kinds origins axes links) (i .q) (i .qd) (i .forces) (i .loaded) (i .loads)
+abbrev pub visitsBy : Plan → Quaternion → Twist → List ℕ → List ℕ → List Float → List Float → List Float → List Float → Inputs → ℕ → List Float → Outcome × List Float
+visitsBy p rotation velocity parents kinds origins axes links rotors i = visitOf p rotation velocity (bundle (p .n) parents kinds origins axes links rotors) (i .q) (i .qd) (i .forces) (i .loaded) (i .loads)

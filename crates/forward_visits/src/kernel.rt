@@ -43,6 +43,7 @@ fn pass<'a>(
     origins: &'a [f64; 224],
     axes: &'a [f64; 96],
     links: &'a [f64; 330],
+    rotors: &'a [f64; 32],
     numbers: &'a [u8; 33],
     q: &'a [f64],
     qd: &'a [f64],
@@ -51,7 +52,7 @@ fn pass<'a>(
     at: usize,
 ) -> Verdict
     requires { ⌜ Fit p (now parents) (now kinds) (now numbers) × Room p (length (now ws)) × (length (now q) ≡ activesOf (now kinds) (p .n)) × (length (now qd) ≡ activesOf (now kinds) (p .n)) × (length (now forces) ≡ p .side) × (at ≤ p .n + p .n + p .n) ⌝ }
-    ensures { λ r. ⌜ (r, now (ws .exit)) ≡ passVisit p rotation velocity (bundle (p .n) (now (parents .entry)) (now (kinds .entry)) (now (origins .entry)) (now (axes .entry)) (now (links .entry))) (now (q .entry)) (now (qd .entry)) (now (forces .entry)) at (now (ws .entry)) ⌝ }
+    ensures { λ r. ⌜ (r, now (ws .exit)) ≡ passVisit p rotation velocity (bundle (p .n) (now (parents .entry)) (now (kinds .entry)) (now (origins .entry)) (now (axes .entry)) (now (links .entry)) (now (rotors .entry))) (now (q .entry)) (now (qd .entry)) (now (forces .entry)) at (now (ws .entry)) ⌝ }
 {
     let n = p.n;
     if at < n {
@@ -72,7 +73,17 @@ fn pass<'a>(
         return Verdict::Fine;
     }
     if at < n + n {
-        return second::second_visit(p, parents, kinds, axes, numbers, forces, ws, n + n - 1 - at);
+        return second::second_visit(
+            p,
+            parents,
+            kinds,
+            axes,
+            rotors,
+            numbers,
+            forces,
+            ws,
+            n + n - 1 - at,
+        );
     }
     if at == n + n {
         return root::root_visit(p, rotation, velocity, forces, ws);
@@ -90,6 +101,7 @@ pub fn visit<'a>(
     origins: &'a [f64; 224],
     axes: &'a [f64; 96],
     links: &'a [f64; 330],
+    rotors: &'a [f64; 32],
     numbers: &'a [u8; 33],
     q: &'a [f64],
     qd: &'a [f64],
@@ -100,7 +112,7 @@ pub fn visit<'a>(
     at: usize,
 ) -> Outcome
     requires { ⌜ Fit p (now parents) (now kinds) (now numbers) × Room p (length (now ws)) × (length (now q) ≡ activesOf (now kinds) (p .n)) × (length (now qd) ≡ activesOf (now kinds) (p .n)) × (length (now forces) ≡ p .side) × (length (now loads) ≡ 6 * length (now loaded)) × (at ≤ p .n + p .n + p .n) ⌝ }
-    ensures { λ r. ⌜ (r, now (ws .exit)) ≡ visitsBy p rotation velocity (now (parents .entry)) (now (kinds .entry)) (now (origins .entry)) (now (axes .entry)) (now (links .entry)) (inputsBy (now (q .entry)) (now (qd .entry)) (now (forces .entry)) (now (loaded .entry)) (now (loads .entry))) at (now (ws .entry)) ⌝ }
+    ensures { λ r. ⌜ (r, now (ws .exit)) ≡ visitsBy p rotation velocity (now (parents .entry)) (now (kinds .entry)) (now (origins .entry)) (now (axes .entry)) (now (links .entry)) (now (rotors .entry)) (inputsBy (now (q .entry)) (now (qd .entry)) (now (forces .entry)) (now (loaded .entry)) (now (loads .entry))) at (now (ws .entry)) ⌝ }
 {
     let n = p.n;
     root::begin(n, velocity, links, loaded, loads, ws, at);
@@ -113,6 +125,7 @@ pub fn visit<'a>(
         origins,
         axes,
         links,
+        rotors,
         numbers,
         q,
         qd,

@@ -25,6 +25,7 @@ fn step<'a>(
     origins: &'a [f64; 224],
     axes: &'a [f64; 96],
     links: &'a [f64; 330],
+    rotors: &'a [f64; 32],
     numbers: &'a [u8; 33],
     q: &'a [f64],
     ws: &mut [f64],
@@ -32,7 +33,7 @@ fn step<'a>(
     s: Position,
 ) -> Progress
     requires { ⌜ Ready p (now parents) (now kinds) (now numbers) (length (now q)) (length (now ws)) (length (now out)) × Within true p s × (s .closed ≡ false) ⌝ }
-    ensures { λ t. ⌜ ((t, now (ws .exit), now (out .exit)) ≡ landed (matrixPlace (p .n)) (opening s, now (ws .entry), now (out .entry)) (visitsBy p r (now (parents .entry)) (now (kinds .entry)) (now (origins .entry)) (now (axes .entry)) (now (links .entry)) (now (q .entry)) (s .visits) (now (ws .entry)))) × Within true p (t .position) ⌝ }
+    ensures { λ t. ⌜ ((t, now (ws .exit), now (out .exit)) ≡ landed (matrixPlace (p .n)) (opening s, now (ws .entry), now (out .entry)) (visitsBy p r (now (parents .entry)) (now (kinds .entry)) (now (origins .entry)) (now (axes .entry)) (now (links .entry)) (now (rotors .entry)) (now (q .entry)) (s .visits) (now (ws .entry)))) × Within true p (t .position) ⌝ }
 {
     let n = p.n;
     let at = s.visits;
@@ -44,6 +45,7 @@ fn step<'a>(
         origins,
         axes,
         links,
+        rotors,
         numbers,
         q,
         ws,
@@ -62,6 +64,7 @@ pub fn run<'a>(
     origins: &'a [f64; 224],
     axes: &'a [f64; 96],
     links: &'a [f64; 330],
+    rotors: &'a [f64; 32],
     numbers: &'a [u8; 33],
     q: &'a [f64],
     ws: &mut [f64],
@@ -70,7 +73,7 @@ pub fn run<'a>(
     budget: usize,
 ) -> Progress
     requires { ⌜ Ready p (now parents) (now kinds) (now numbers) (length (now q)) (length (now ws)) (length (now out)) × Within true p from ⌝ }
-    ensures { λ t. ⌜ (t, now (ws .exit), now (out .exit)) ≡ iterate (stepBy (visitsBy p r (now (parents .entry)) (now (kinds .entry)) (now (origins .entry)) (now (axes .entry)) (now (links .entry)) (now (q .entry))) (matrixPlace (p .n))) budget (opening from, now (ws .entry), now (out .entry)) ⌝ }
+    ensures { λ t. ⌜ (t, now (ws .exit), now (out .exit)) ≡ iterate (stepBy (visitsBy p r (now (parents .entry)) (now (kinds .entry)) (now (origins .entry)) (now (axes .entry)) (now (links .entry)) (now (rotors .entry)) (now (q .entry))) (matrixPlace (p .n))) budget (opening from, now (ws .entry), now (out .entry)) ⌝ }
 {
     let mut s = Progress {
         position: from,
@@ -91,6 +94,7 @@ pub fn run<'a>(
             origins,
             axes,
             links,
+            rotors,
             numbers,
             q,
             ws,

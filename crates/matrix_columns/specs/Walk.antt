@@ -14,13 +14,13 @@ use Rattle.spatial.specs.Operators.{wrenchToParent}
 use Rattle.spatial.specs.Wrench.{rotatedOf, vectorOf}
 use Rattle.spatial.specs.declared.wrench.Wrench.{Wrench}
 use Rattle.slots.specs.Slots.{frameAt}
-use Rattle.arm.specs.Model.{parentOf, motionOf}
+use Rattle.arm.specs.Model.{parentOf, motionOf, rotorOf}
 use Rattle.arm.specs.Topology.{activesOf, activeJoint}
 use Rattle.arm.specs.declared.joint.Motion.{Motion}
 use Rattle.arm.specs.declared.joint.Motion.the-variants.{Turn, Slide, Fixed}
 use Rattle.arm.specs.declared.model.Model.{Model}
 use Rattle.composites.specs.Composite.{compositeAt, forceOf}
-use Rattle.composites.specs.Plan.{framePlace, compositePlace, putPair, putSix}
+use Rattle.composites.specs.Plan.{framePlace, compositePlace, putPair, putSix, addRotor}
 use Rattle.calls.specs.declared.plan.Plan.{Plan}
 
 -- S·F, what a wrench gives along a motion
@@ -61,18 +61,20 @@ walkOf p parents kinds axes column j s = climb (parentOf parents) (walkStep p ki
 unfoldable pub baseRows : Plan → Quaternion → ℕ → Wrench × List Float → List Float
 baseRows p r column s = cond (eqb (p .lead) 0) (s .1) (putSix p column (rotatedOf (s .0) r) (s .1))
 
-unfoldable pub columnVisit : Plan → Quaternion → List ℕ → List ℕ → List Float → ℕ → List Float → List Float
-columnVisit p r parents kinds axes j ws =
+-- the walk, the joint's rotor on its diagonal entry, and the base's rows
+unfoldable pub columnVisit : Plan → Quaternion → List ℕ → List ℕ → List Float → List Float → ℕ → List Float → List Float
+columnVisit p r parents kinds axes rotors j ws =
     let column = p .lead + activesOf kinds j in
-    baseRows p r column (walkOf p parents kinds axes column j (forceOf (motionOf kinds axes j) (compositeAt ws (compositePlace j)), ws))
+    let walked = walkOf p parents kinds axes column j (forceOf (motionOf kinds axes j) (compositeAt ws (compositePlace j)), ws) in
+    baseRows p r column (walked .0, addRotor p column (rotorOf rotors j) (walked .1))
 
-unfoldable pub columnFound : Plan → Quaternion → List ℕ → List ℕ → List Float → Place → List Float → List Float
-columnFound p r parents kinds axes (At j) ws = columnVisit p r parents kinds axes j ws
-columnFound p r parents kinds axes Nothing ws = ws
+unfoldable pub columnFound : Plan → Quaternion → List ℕ → List ℕ → List Float → List Float → Place → List Float → List Float
+columnFound p r parents kinds axes rotors (At j) ws = columnVisit p r parents kinds axes rotors j ws
+columnFound p r parents kinds axes rotors Nothing ws = ws
 
 -- of active number k
 abbrev pub activeColumn : Plan → Quaternion → Model → ℕ → List Float → List Float
-activeColumn p r m k ws = columnFound p r (m .parents) (m .kinds) (m .axes) (activeJoint (m .kinds) (p .n) k) ws
+activeColumn p r m k ws = columnFound p r (m .parents) (m .kinds) (m .axes) (m .rotors) (activeJoint (m .kinds) (p .n) k) ws
 
 -- ---- what the steps of the code promise each other
 

@@ -99,19 +99,20 @@ fn walked<'a>(
     Wrench::from_vector(&end)
 }
 
-// The column of active joint j: the walk, and the base's rows where it floats.
+// The column of active joint j: the walk, its rotor, and the base's rows where it floats.
 fn column_visit<'a>(
     p: Plan,
     r: Quaternion,
     parents: &'a [u8; 32],
     kinds: &'a [u8; 32],
     axes: &'a [f64; 96],
+    rotors: &'a [f64; 32],
     numbers: &'a [u8; 33],
     ws: &mut [f64],
     j: usize,
 )
     requires { ⌜ Fit p (now parents) (now kinds) (now numbers) × Room p (length (now ws)) × (j < p .n) × (kindOf (now kinds) j ≡ 2 → ⊥) ⌝ }
-    ensures { λ _. ⌜ now (ws .exit) ≡ columnVisit p r (now (parents .entry)) (now (kinds .entry)) (now (axes .entry)) j (now (ws .entry)) ⌝ }
+    ensures { λ _. ⌜ now (ws .exit) ≡ columnVisit p r (now (parents .entry)) (now (kinds .entry)) (now (axes .entry)) (now (rotors .entry)) j (now (ws .entry)) ⌝ }
 {
     let lead = p.lead;
     let column = plan::row_of(p, parents, kinds, numbers, j);
@@ -119,6 +120,7 @@ fn column_visit<'a>(
     let c = composite::composite_at(ws, j * plan::JOINT + plan::COMPOSITE);
     let force = composite::force(motion, c);
     let w = walked(p, parents, kinds, axes, numbers, ws, j, column, force);
+    plan::add_rotor(p, ws, column, rotors[j]);
     if lead == 0 {
         return;
     }
@@ -132,17 +134,18 @@ pub fn active_column<'a>(
     parents: &'a [u8; 32],
     kinds: &'a [u8; 32],
     axes: &'a [f64; 96],
+    rotors: &'a [f64; 32],
     numbers: &'a [u8; 33],
     ws: &mut [f64],
     k: usize,
 )
     requires { ⌜ Fit p (now parents) (now kinds) (now numbers) × Room p (length (now ws)) × (k ≤ p .n) ⌝ }
-    ensures { λ _. ⌜ now (ws .exit) ≡ columnFound p r (now (parents .entry)) (now (kinds .entry)) (now (axes .entry)) (activeJoint (now (kinds .entry)) (p .n) k) (now (ws .entry)) ⌝ }
+    ensures { λ _. ⌜ now (ws .exit) ≡ columnFound p r (now (parents .entry)) (now (kinds .entry)) (now (axes .entry)) (now (rotors .entry)) (activeJoint (now (kinds .entry)) (p .n) k) (now (ws .entry)) ⌝ }
 {
     let n = p.n;
     let found = topology::active_joint(kinds, numbers, n, k);
     match found {
-        Place::At(j) => column_visit(p, r, parents, kinds, axes, numbers, ws, j),
+        Place::At(j) => column_visit(p, r, parents, kinds, axes, rotors, numbers, ws, j),
         Place::Nothing => {}
     }
 }

@@ -34,11 +34,11 @@ begunOf p links at ws =
 
 -- ---- frames rising: joint j's frame, and its own link as the start of its composite
 
-unfoldable pub frameVisit : Model → List Float → ℕ → List Float → List Float
-frameVisit m q j ws =
-    let joint = jointOf (m .parents) (m .kinds) (m .origins) (m .axes) j in
-    let framed = putFrame ws (framePlace j) (frameOf (joint .origin) (joint .motion) (valueOf (m .kinds) q j)) in
-    putComposite framed (compositePlace j) (linkOf (m .links) (j + 1))
+unfoldable pub frameVisit : List ℕ → List ℕ → List Float → List Float → List Float → List Float → ℕ → List Float → List Float
+frameVisit parents kinds origins axes links q j ws =
+    let joint = jointOf parents kinds origins axes j in
+    let framed = putFrame ws (framePlace j) (frameOf (joint .origin) (joint .motion) (valueOf kinds q j)) in
+    putComposite framed (compositePlace j) (linkOf links (j + 1))
 
 -- ---- composites falling: into the parent's, or the root's where it floats
 
@@ -85,7 +85,7 @@ rootVisit p r ws = let full = rootColumns p r ws in (tested p full, full)
 unfoldable pub jointVisit : Plan → Quaternion → Model → List Float → ℕ → List Float → List Float
 jointVisit p r m q at ws =
     let n = p .n in
-    cond (ltb at n) (frameVisit m q at ws)
+    cond (ltb at n) (frameVisit (m .parents) (m .kinds) (m .origins) (m .axes) (m .links) q at ws)
     (cond (ltb at (n + n)) (let j = n + n - 1 - at in compositeVisit p (parentOf (m .parents) j) j ws)
     (activeColumn p r m (at - (n + n)) ws))
 
@@ -101,5 +101,5 @@ unfoldable pub intoPlace : ℕ → ℕ → ℕ
 intoPlace n parent = cond (eqb parent 0) (rootPlace n) (compositePlace (parent - 1))
 
 -- the visits of a model's lists
-abbrev pub visitsBy : Plan → Quaternion → List ℕ → List ℕ → List Float → List Float → List Float → List Float → ℕ → List Float → Outcome × List Float
-visitsBy p r parents kinds origins axes links q = visitOf p r (bundle (p .n) parents kinds origins axes links) q
+abbrev pub visitsBy : Plan → Quaternion → List ℕ → List ℕ → List Float → List Float → List Float → List Float → List Float → ℕ → List Float → Outcome × List Float
+visitsBy p r parents kinds origins axes links rotors q = visitOf p r (bundle (p .n) parents kinds origins axes links rotors) q

@@ -56,7 +56,7 @@ fn frame_visit<'a>(
     j: usize,
 )
     requires { ⌜ Fit p (now parents) (now kinds) (now numbers) × Room p (length (now ws)) × (j < p .n) × (length (now q) ≡ activesOf (now kinds) (p .n)) ⌝ }
-    ensures { λ _. ⌜ now (ws .exit) ≡ frameVisit (bundle (p .n) (now (parents .entry)) (now (kinds .entry)) (now (origins .entry)) (now (axes .entry)) (now (links .entry))) (now (q .entry)) j (now (ws .entry)) ⌝ }
+    ensures { λ _. ⌜ now (ws .exit) ≡ frameVisit (now (parents .entry)) (now (kinds .entry)) (now (origins .entry)) (now (axes .entry)) (now (links .entry)) (now (q .entry)) j (now (ws .entry)) ⌝ }
 {
     let n = p.n;
     let frame = topology::frame_at(n, parents, kinds, origins, axes, numbers, q, j);
@@ -211,13 +211,14 @@ fn joint_visit<'a>(
     origins: &'a [f64; 224],
     axes: &'a [f64; 96],
     links: &'a [f64; 330],
+    rotors: &'a [f64; 32],
     numbers: &'a [u8; 33],
     q: &'a [f64],
     ws: &mut [f64],
     at: usize,
 )
     requires { ⌜ Fit p (now parents) (now kinds) (now numbers) × Room p (length (now ws)) × (length (now q) ≡ activesOf (now kinds) (p .n)) × (at < p .n + p .n + activesOf (now kinds) (p .n)) ⌝ }
-    ensures { λ _. ⌜ now (ws .exit) ≡ jointVisit p r (bundle (p .n) (now (parents .entry)) (now (kinds .entry)) (now (origins .entry)) (now (axes .entry)) (now (links .entry))) (now (q .entry)) at (now (ws .entry)) ⌝ }
+    ensures { λ _. ⌜ now (ws .exit) ≡ jointVisit p r (bundle (p .n) (now (parents .entry)) (now (kinds .entry)) (now (origins .entry)) (now (axes .entry)) (now (links .entry)) (now (rotors .entry))) (now (q .entry)) at (now (ws .entry)) ⌝ }
 {
     let n = p.n;
     if at < n {
@@ -228,7 +229,17 @@ fn joint_visit<'a>(
         composite_visit(p, parents, ws, n + n - 1 - at);
         return;
     }
-    column::active_column(p, r, parents, kinds, axes, numbers, ws, at - (n + n));
+    column::active_column(
+        p,
+        r,
+        parents,
+        kinds,
+        axes,
+        rotors,
+        numbers,
+        ws,
+        at - (n + n),
+    );
 }
 
 // Visit `at`.
@@ -240,13 +251,14 @@ pub fn visit<'a>(
     origins: &'a [f64; 224],
     axes: &'a [f64; 96],
     links: &'a [f64; 330],
+    rotors: &'a [f64; 32],
     numbers: &'a [u8; 33],
     q: &'a [f64],
     ws: &mut [f64],
     at: usize,
 ) -> Outcome
     requires { ⌜ Fit p (now parents) (now kinds) (now numbers) × Room p (length (now ws)) × (length (now q) ≡ activesOf (now kinds) (p .n)) ⌝ }
-    ensures { λ o. ⌜ (o, now (ws .exit)) ≡ visitsBy p r (now (parents .entry)) (now (kinds .entry)) (now (origins .entry)) (now (axes .entry)) (now (links .entry)) (now (q .entry)) at (now (ws .entry)) ⌝ }
+    ensures { λ o. ⌜ (o, now (ws .exit)) ≡ visitsBy p r (now (parents .entry)) (now (kinds .entry)) (now (origins .entry)) (now (axes .entry)) (now (links .entry)) (now (rotors .entry)) (now (q .entry)) at (now (ws .entry)) ⌝ }
 {
     let n = p.n;
     let lead = p.lead;
@@ -262,6 +274,7 @@ pub fn visit<'a>(
             origins,
             axes,
             links,
+            rotors,
             numbers,
             q,
             ws,

@@ -41,11 +41,11 @@ fn narrow(s: &[u64]) -> Bytes
 
 // Whether the lists are as long as a model's own.
 fn full(k: Sizes) -> bool
-    ensures { λ r. ⌜ r ≡ fullBy (k .parents) (k .kinds) (k .origins) (k .axes) (k .links) ⌝ }
+    ensures { λ r. ⌜ r ≡ fullBy (k .parents) (k .kinds) (k .origins) (k .axes) (k .links) (k .rotors) ⌝ }
 {
     let joints = both(k.parents == 32, k.kinds == 32);
     let numbers = both(k.origins == 224, k.axes == 96);
-    both(both(joints, numbers), k.links == 330)
+    both(both(joints, numbers), both(k.links == 330, k.rotors == 32))
 }
 
 pub fn lent_model<'a>(
@@ -55,9 +55,10 @@ pub fn lent_model<'a>(
     origins: &'a [f64; 4096],
     axes: &'a [f64; 4096],
     links: &'a [f64; 4096],
+    rotors: &'a [f64; 4096],
 ) -> Lent
-    requires { ⌜ SizesIn k (now parents) (now kinds) (now origins) (now axes) (now links) ⌝ }
-    ensures { λ r. ⌜ LentBy (numbersBy k (now (parents .entry)) (now (kinds .entry)) (now (origins .entry)) (now (axes .entry)) (now (links .entry))) r ⌝ }
+    requires { ⌜ SizesIn k (now parents) (now kinds) (now origins) (now axes) (now links) (now rotors) ⌝ }
+    ensures { λ r. ⌜ LentBy (numbersBy k (now (parents .entry)) (now (kinds .entry)) (now (origins .entry)) (now (axes .entry)) (now (links .entry)) (now (rotors .entry))) r ⌝ }
 {
     let p = narrow(parents);
     let q = narrow(kinds);
@@ -67,6 +68,8 @@ pub fn lent_model<'a>(
     slots::copy_from(&mut axis_slots, axes, 0);
     let mut link_slots = [0.0; 330];
     slots::copy_from(&mut link_slots, links, 0);
+    let mut rotor_slots = [0.0; 32];
+    slots::copy_from(&mut rotor_slots, rotors, 0);
     let parent_slots = p.bytes;
     let kind_slots = q.bytes;
     let model = Model {
@@ -76,6 +79,7 @@ pub fn lent_model<'a>(
         origins: origin_slots,
         axes: axis_slots,
         links: link_slots,
+        rotors: rotor_slots,
     };
     let fine = both(full(k), both(p.fine, q.fine));
     Lent { fine, model }

@@ -20,6 +20,7 @@ pub struct Sizes {
     pub origins: usize,
     pub axes: usize,
     pub links: usize,
+    pub rotors: usize,
 }
 
 pub enum Handed {
@@ -27,7 +28,7 @@ pub enum Handed {
     Bad,
 }
 
-// N PARENTS KINDS ORIGINS AXES LINKS, and no word behind them.
+// N PARENTS KINDS ORIGINS AXES LINKS ROTORS, and no word behind them.
 pub fn read_numbers(
     s: &[u8],
     c: Cursor,
@@ -36,9 +37,10 @@ pub fn read_numbers(
     origins: &mut [f64; 4096],
     axes: &mut [f64; 4096],
     links: &mut [f64; 4096],
+    rotors: &mut [f64; 4096],
 ) -> Handed
     requires { ⌜ c .at ≤ length (now s) ⌝ }
-    ensures { λ r. ⌜ (handedRead r (now (parents .exit)) (now (kinds .exit)) (now (origins .exit)) (now (axes .exit)) (now (links .exit)) ≡ handed (wordsAt (now (s .entry)) c)) × HandedIn r (now (parents .exit)) (now (kinds .exit)) (now (origins .exit)) (now (axes .exit)) (now (links .exit)) ⌝ }
+    ensures { λ r. ⌜ (handedRead r (now (parents .exit)) (now (kinds .exit)) (now (origins .exit)) (now (axes .exit)) (now (links .exit)) (now (rotors .exit)) ≡ handed (wordsAt (now (s .entry)) c)) × HandedIn r (now (parents .exit)) (now (kinds .exit)) (now (origins .exit)) (now (axes .exit)) (now (links .exit)) (now (rotors .exit)) ⌝ }
 {
     let Next::Is(n, c0) = next_number(s, c) else {
         return Handed::Bad;
@@ -58,7 +60,10 @@ pub fn read_numbers(
     let Listed::Got(l, c5) = doubles(s, c4, links) else {
         return Handed::Bad;
     };
-    if !at_end(s, c5) {
+    let Listed::Got(r, c6) = doubles(s, c5, rotors) else {
+        return Handed::Bad;
+    };
+    if !at_end(s, c6) {
         return Handed::Bad;
     }
     Handed::Got(Sizes {
@@ -68,5 +73,6 @@ pub fn read_numbers(
         origins: o,
         axes: a,
         links: l,
+        rotors: r,
     })
 }

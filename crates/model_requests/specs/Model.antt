@@ -22,4 +22,4 @@ builtReply b = (builtLine (b .verdict), b .model)
 unfoldable pub modelRequest : Reader (List ℕ × Model)
 modelRequest = do
   h ← handed
-  give (builtReply (builtOf (h .n) (h .parents) (h .kinds) (h .origins) (h .axes) (h .links)))
+  give (builtReply (builtOf (h .n) (h .parents) (h .kinds) (h .origins) (h .axes) (h .links) (h .rotors)))

@@ -25,6 +25,7 @@ pub fn lend(m: Model, s: &[u8], c: Cursor, out: &mut [u8], at: usize) -> Reply
     let mut origins = double_buffer();
     let mut axes = double_buffer();
     let mut links = double_buffer();
+    let mut rotors = double_buffer();
     let h = read_numbers(
         s,
         c,
@@ -33,12 +34,13 @@ pub fn lend(m: Model, s: &[u8], c: Cursor, out: &mut [u8], at: usize) -> Reply
         &mut origins,
         &mut axes,
         &mut links,
+        &mut rotors,
     );
     let Handed::Got(sizes) = h else {
         let end = error(out, at);
         return Reply { end, model: m };
     };
-    let l = lent_model(sizes, &parents, &kinds, &origins, &axes, &links);
+    let l = lent_model(sizes, &parents, &kinds, &origins, &axes, &links, &rotors);
     if l.fine {
         let model = l.model;
         let end = put(out, at, b"lent\n");

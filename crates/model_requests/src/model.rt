@@ -41,6 +41,7 @@ pub fn model(m: Model, s: &[u8], c: Cursor, out: &mut [u8], at: usize) -> Reply
     let mut origins = double_buffer();
     let mut axes = double_buffer();
     let mut links = double_buffer();
+    let mut rotors = double_buffer();
     let h = read_numbers(
         s,
         c,
@@ -49,6 +50,7 @@ pub fn model(m: Model, s: &[u8], c: Cursor, out: &mut [u8], at: usize) -> Reply
         &mut origins,
         &mut axes,
         &mut links,
+        &mut rotors,
     );
     match h {
         Handed::Got(sizes) => {
@@ -57,6 +59,7 @@ pub fn model(m: Model, s: &[u8], c: Cursor, out: &mut [u8], at: usize) -> Reply
             let o = sizes.origins;
             let a = sizes.axes;
             let l = sizes.links;
+            let r = sizes.rotors;
             let built = build(
                 sizes.n,
                 &parents[..p],
@@ -64,6 +67,7 @@ pub fn model(m: Model, s: &[u8], c: Cursor, out: &mut [u8], at: usize) -> Reply
                 &origins[..o],
                 &axes[..a],
                 &links[..l],
+                &rotors[..r],
             );
             let verdict = built.verdict;
             let model = built.model;
