@@ -117,10 +117,11 @@ fn column_visit<'a>(
     let lead = p.lead;
     let column = plan::row_of(p, parents, kinds, numbers, j);
     let motion = model::motion_at(kinds, axes, j);
+    let rotor = rotors[j];
     let c = composite::composite_at(ws, j * plan::JOINT + plan::COMPOSITE);
     let force = composite::force(motion, c);
     let w = walked(p, parents, kinds, axes, numbers, ws, j, column, force);
-    plan::add_rotor(p, ws, column, rotors[j]);
+    plan::add_rotor(p, ws, column, rotor);
     if lead == 0 {
         return;
     }

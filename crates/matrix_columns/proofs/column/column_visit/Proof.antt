@@ -10,6 +10,12 @@ row-of-requires c κs = search needs
 motion-at-requires : tie.Need-motion-at-requires
 motion-at-requires c κs = search needs
 
+mul-rotor : tie.Need-mul-rotor
+mul-rotor c = search needs
+
+element-copy-out-rotor : tie.Need-element-copy-out-rotor
+element-copy-out-rotor c = search needs
+
 mul-composite-at : tie.Need-mul-composite-at
 mul-composite-at c = search needs
 
@@ -25,20 +31,47 @@ force-requires c κs = search needs
 walked-requires : tie.Need-walked-requires
 walked-requires c κs = search needs
 
+add-rotor-requires : tie.Need-add-rotor-requires
+add-rotor-requires c κs =
+    let row = c .before .before .before .before .before .before .before .before .before .before in
+    (search needs, row .row-of .ensures .1)
+
 same-length : tie.Need-same-length
 same-length c = search needs
 
 returns : tie.Need-returns
-returns c = let b3 = c .before .before .before in let b5 = b3 .before .before in let b6 = b5 .before in let b8 = b6 .before .before in let b9 = b8 .before in let b11 = b9 .before .before in column-fixed (b11 .args .p) (b11 .args .r) (b11 .args .parents .now) (b11 .args .kinds .now) (b11 .args .axes .now) (b11 .args .j) (b11 .args .ws .now) (b9 .row-of .ensures .0) (b8 .motion-at .ensures) (b6 .composite-at .ensures) (b5 .force .ensures) (b3 .walked .ensures .0) (c .if1 .taken)
+returns c =
+    let rotor = c .before .before .before in
+    let walk = rotor .before .before .before .before in
+    let force = walk .before .before in
+    let own = force .before in
+    let motion = own .before .before .before in
+    let row = motion .before in
+    let o = row .before .before in
+    column-fixed (o .args .p) (o .args .r) (o .args .parents .now) (o .args .kinds .now) (o .args .axes .now) (o .args .rotors .now) (o .args .j) (o .args .ws .now) (row .row-of .ensures .0) (motion .motion-at .ensures) (own .composite-at .ensures) (force .force .ensures) (walk .walked .ensures .0) (rotor .add-rotor .ensures) (c .if1 .taken)
 
 base-rows-requires : tie.Need-base-rows-requires
-base-rows-requires c κs = let b1 = c .before in let b10 = b1 .before .before .before .before .before .before .before .before .before in let b12 = b10 .before .before in let fit = b12 .pre .0 in (search needs, omega (arith, fit .whole (b1 .if1 .left), fit .sided), b10 .row-of .ensures .1)
+base-rows-requires c κs =
+    let left = c .before in
+    let row = left .before .before .before .before .before .before .before .before .before .before .before .before .before .before in
+    let fit = row .before .before .pre .0 in
+    (search needs, omega (arith, fit .whole (left .if1 .left), fit .sided), row .row-of .ensures .1)
 
 same-length-2 : tie.Need-same-length-2
 same-length-2 c = search needs
 
 returns-2 : tie.Need-returns-2
-returns-2 c = let b2 = c .before .before in let b4 = b2 .before .before in let b7 = b4 .before .before .before in let b9 = b7 .before .before in let b10 = b9 .before in let b12 = b10 .before .before in let b13 = b12 .before in let b15 = b13 .before .before in column-floats (b15 .args .p) (b15 .args .r) (b15 .args .parents .now) (b15 .args .kinds .now) (b15 .args .axes .now) (b15 .args .j) (b15 .args .ws .now) (b13 .row-of .ensures .0) (b12 .motion-at .ensures) (b10 .composite-at .ensures) (b9 .force .ensures) (b7 .walked .ensures .0) (b4 .if1 .left) (b7 .walked .ensures .1 (b4 .if1 .left)) (b2 .base-rows .ensures)
+returns-2 c =
+    let base = c .before .before in
+    let left = base .before .before in
+    let rotor = left .before .before .before in
+    let walk = rotor .before .before .before .before in
+    let force = walk .before .before in
+    let own = force .before in
+    let motion = own .before .before .before in
+    let row = motion .before in
+    let o = row .before .before in
+    column-floats (o .args .p) (o .args .r) (o .args .parents .now) (o .args .kinds .now) (o .args .axes .now) (o .args .rotors .now) (o .args .j) (o .args .ws .now) (row .row-of .ensures .0) (motion .motion-at .ensures) (own .composite-at .ensures) (force .force .ensures) (walk .walked .ensures .0) (rotor .add-rotor .ensures) (left .if1 .left) (walk .walked .ensures .1 (left .if1 .left)) (base .base-rows .ensures)
 
 pub column-visit-spec : {M : Type 1} → statement M
 column-visit-spec =
@@ -46,11 +79,14 @@ column-visit-spec =
     (tie.spec
     row-of-requires
     motion-at-requires
+    mul-rotor
+    element-copy-out-rotor
     mul-composite-at
     add-composite-at
     composite-at-requires
     force-requires
     walked-requires
+    add-rotor-requires
     same-length
     returns
     base-rows-requires

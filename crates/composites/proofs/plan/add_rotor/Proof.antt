@@ -1,0 +1,34 @@
+use borrow.Author.Needs.{needs}
+use Rattle.composites.specs.Plan.{addRotor}
+use Rattle.composites.proofs.plan.add_rotor.Statement.{statement}
+use Rattle.composites.proofs.plan.add_rotor.Tie as tie
+
+place-requires : tie.Need-place-requires
+place-requires c κs = search needs
+
+number-at-requires : tie.Need-number-at-requires
+number-at-requires c κs = search needs
+
+with-rotor-requires : tie.Need-with-rotor-requires
+with-rotor-requires c κs = search needs
+
+put-number-requires : tie.Need-put-number-requires
+put-number-requires c κs = search needs
+
+same-length : tie.Need-same-length
+same-length c = search needs
+
+returns : tie.Need-returns
+unfolding addRotor
+returns c = cc
+
+pub add-rotor-spec : {M : Type 1} → statement M
+add-rotor-spec =
+    tie.close
+    (tie.spec
+    place-requires
+    number-at-requires
+    with-rotor-requires
+    put-number-requires
+    same-length
+    returns)
