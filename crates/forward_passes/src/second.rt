@@ -66,8 +66,9 @@ pub fn second_visit<'a>(
     ensures { λ r. ⌜ (r, now (ws .exit)) ≡ secondVisit p (now (parents .entry)) (now (kinds .entry)) (now (axes .entry)) (now (rotors .entry)) (now (forces .entry)) j (now (ws .entry)) ⌝ }
 {
     let motion = model::motion_at(kinds, axes, j);
+    let rotor = rotors[j];
     let number = topology::number_at(kinds, numbers, j);
-    let v = eliminate::eliminate(p, motion, rotors[j], number, forces, ws, j);
+    let v = eliminate::eliminate(p, motion, rotor, number, forces, ws, j);
     let Verdict::Fine = v else {
         return v;
     };

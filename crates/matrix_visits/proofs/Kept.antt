@@ -20,7 +20,7 @@ use Rattle.calls.specs.declared.position.Outcome.{Outcome}
 use Rattle.calls.proofs.Kept.{either-way}
 use Rattle.composites.specs.Composite.{putComposite}
 use Rattle.matrix_visits.specs.Kernel.{begunOf, frameVisit, addInto, compositeVisit, baseLoadsTo, rootColumns, rootVisit, jointVisit, visitOf}
-use Rattle.composites.specs.Plan.{compositePlace, rootPlace, putPair, putSix}
+use Rattle.composites.specs.Plan.{compositePlace, rootPlace, putPair, putSix, addRotor}
 use Rattle.matrix_columns.specs.Walk.{putEntry, walkStep, climb, walkOf, baseRows, columnVisit, columnFound}
 use Rattle.calls.specs.declared.plan.Plan.{Plan}
 
@@ -70,11 +70,15 @@ unfolding walkOf walkStep
 length-walk p parents kinds axes column j s =
     climb-keeps size (parentOf parents) (walkStep p kinds axes column) (λ i t. length-putEntry p _ _ column _ (t .1)) (suc j) j s
 
-length-found : (p : Plan) (r : Quaternion) (parents kinds : List ℕ) (axes : List Float) (i : Place) (ws : List Float) → length (columnFound p r parents kinds axes i ws) ≡ length ws
+length-addRotor : (p : Plan) (row : ℕ) (rotor : Float) (ws : List Float) → length (addRotor p row rotor ws) ≡ length ws
+unfolding addRotor
+length-addRotor p row rotor ws = simp length-set
+
+length-found : (p : Plan) (r : Quaternion) (parents kinds : List ℕ) (axes rotors : List Float) (i : Place) (ws : List Float) → length (columnFound p r parents kinds axes rotors i ws) ≡ length ws
 unfolding columnFound columnVisit baseRows
-length-found p r parents kinds axes (At j) ws =
-    either-way length (eqb (p .lead) 0) (length-walk p parents kinds axes _ j _) (length-putSix p _ _ _ ∙ length-walk p parents kinds axes _ j _)
-length-found p r parents kinds axes Nothing ws = refl
+length-found p r parents kinds axes rotors (At j) ws =
+    either-way length (eqb (p .lead) 0) (length-addRotor p _ _ _ ∙ length-walk p parents kinds axes _ j _) (length-putSix p _ _ _ ∙ length-addRotor p _ _ _ ∙ length-walk p parents kinds axes _ j _)
+length-found p r parents kinds axes rotors Nothing ws = refl
 
 length-joint : (p : Plan) (r : Quaternion) (m : Model) (q : List Float) (at : ℕ) (ws : List Float) → length (jointVisit p r m q at ws) ≡ length ws
 unfolding jointVisit frameVisit
@@ -82,7 +86,7 @@ length-joint p r m q at ws =
     let n = p .n in
     either-way length (ltb at n) (simp (length-putComposite, length-putFrame))
     (either-way length (ltb at (n + n)) (length-composite p _ (n + n - 1 - at) ws)
-    (length-found p r (m .parents) (m .kinds) (m .axes) (activeJoint (m .kinds) n (at - (n + n))) ws))
+    (length-found p r (m .parents) (m .kinds) (m .axes) (m .rotors) (activeJoint (m .kinds) n (at - (n + n))) ws))
 
 length-loads : (p : Plan) (r : Quaternion) (root : Link) (k : ℕ) (ws : List Float) → length (baseLoadsTo p r root k ws) ≡ length ws
 unfolding baseLoadsTo

@@ -1,25 +1,25 @@
 -- A visit sets no place but those of the table: every other number keeps its bits. Assumes nothing.
 use mathlib.Core.Bool.{cond}
-use mathlib.Core.List.{List, [], _++_}
+use mathlib.Core.List.{List, [], _∷_, _++_}
 use mathlib.Core.Path.{_≡_}
 use Prim.Native.Nat.{ℕ, zero, suc, _+_, _-_, _*_, _<_}
 use native.Mathlib.Omega.{arith}
 use borrow.Author.Tests.{ne-eqb}
 use lib.Dec.{eqb, ltb}
-use lib.ListN.{set}
-use lib.Ieee.{Float}
+use lib.ListN.{set, getD}
+use lib.Ieee.{Float, nan}
 use Rattle.numbers.specs.declared.quaternion.Quaternion.{Quaternion}
 use Rattle.numbers.specs.declared.vec3.Vec3.{Vec3}
 use Rattle.refusals.specs.declared.Place.{Place}
 use Rattle.refusals.specs.declared.Place.the-variants.{At, Nothing}
 use Rattle.spatial.specs.Wrench.{rotatedOf}
 use Rattle.spatial.specs.declared.wrench.Wrench.{Wrench}
-use Rattle.slots.specs.Parts.{Part, Sets}
+use Rattle.slots.specs.Parts.{Part, part, Sets}
 use Rattle.slots.specs.Slots.{putVec3, vec3At, zeroTo}
 use Rattle.slots.proofs.Sets.{none, here, there, then, row, way}
 use Rattle.slots.proofs.Blocks.{Outside, wider, both, set-outside, putVec3-outside, putMat3-outside, putFrame-outside, putWrench-outside, zeroTo-outside}
-use Rattle.arm.specs.Joint.{isFixed, motionBy}
-use Rattle.arm.specs.Model.{parentOf, kindOf, motionOf, linkOf}
+use Rattle.arm.specs.Joint.{isFixed, motionBy, withRotor}
+use Rattle.arm.specs.Model.{parentOf, kindOf, motionOf, rotorOf, linkOf}
 use Rattle.arm.specs.Topology.{activesOf, activeJoint}
 use Rattle.arm.specs.declared.joint.Motion.the-variants.{Fixed}
 use Rattle.arm.specs.declared.model.Link.{Link}
@@ -27,7 +27,7 @@ use Rattle.arm.specs.declared.model.Model.{Model}
 use Rattle.calls.specs.declared.plan.Plan.{Plan}
 use Rattle.calls.specs.declared.position.Outcome.{Outcome}
 use Rattle.composites.specs.Composite.{compositeAt, putComposite, forceOf}
-use Rattle.composites.specs.Plan.{compositePlace, rootPlace, matrixPlace, putPair, putSix}
+use Rattle.composites.specs.Plan.{compositePlace, rootPlace, matrixPlace, placeOf, putPair, putSix, addRotor}
 use Rattle.matrix_columns.specs.Walk.{entryOf, putEntry, walkStep, climb, walkOf, baseRows, columnVisit, columnFound}
 use Rattle.matrix_visits.specs.Kernel.{begunOf, frameVisit, addInto, compositeVisit, baseLoadsTo, rootColumns, rootVisit, jointVisit, visitOf}
 use Rattle.matrix_visits.specs.Places.{rootPart, begunParts, frameParts, compositeParts, pairParts, entryParts, pathParts, rowsTo, columnParts, columnsTo, baseParts, jointParts, setBy}
@@ -66,9 +66,9 @@ begun-sets p links k ws =
     (then (here (zeroTo-outside ws (matrixPlace (p .n)) (p .side * p .side))) (there (root-sets p (putComposite-outside zeroed (rootPlace (p .n)) (linkOf links 0)))))
     (none ws)
 
-frame-sets : (m : Model) (q : List Float) (j : ℕ) (ws : List Float) → Sets (frameParts j) ws (frameVisit m q j ws)
+frame-sets : (parents kinds : List ℕ) (origins axes links q : List Float) (j : ℕ) (ws : List Float) → Sets (frameParts j) ws (frameVisit parents kinds origins axes links q j ws)
 unfolding frameParts frameVisit
-frame-sets m q j ws = then (here (putFrame-outside _ _ _)) (there (here (putComposite-outside _ _ _)))
+frame-sets parents kinds origins axes links q j ws = then (here (putFrame-outside _ _ _)) (there (here (putComposite-outside _ _ _)))
 
 composite-sets : (p : Plan) (parent j : ℕ) (ws : List Float) → Sets (compositeParts p parent) ws (compositeVisit p parent j ws)
 unfolding compositeParts compositeVisit
@@ -116,17 +116,19 @@ six-sets p column w ws =
     (pair-sets p 4 column (w .force .y) _))
     (pair-sets p 5 column (w .force .z) _)
 
-column-sets : (p : Plan) (r : Quaternion) (parents kinds : List ℕ) (axes : List Float) (found : Place) (ws : List Float) →
-    Sets (columnParts p parents kinds found) ws (columnFound p r parents kinds axes found ws)
-unfolding columnParts pathParts columnFound columnVisit walkOf baseRows
-column-sets p r parents kinds axes (At j) ws =
+column-sets : (p : Plan) (r : Quaternion) (parents kinds : List ℕ) (axes rotors : List Float) (found : Place) (ws : List Float) →
+    Sets (columnParts p parents kinds found) ws (columnFound p r parents kinds axes rotors found ws)
+unfolding columnParts pathParts columnFound columnVisit walkOf baseRows addRotor
+column-sets p r parents kinds axes rotors (At j) ws =
     let column = p .lead + activesOf kinds j in
     let from : Wrench × List Float = (forceOf (motionOf kinds axes j) (compositeAt ws (compositePlace j)), ws) in
     let end = climb (parentOf parents) (walkStep p kinds axes column) (suc j) j from in
-    row (pathParts p parents kinds column j) (cond (eqb (p .lead) 0) [] (rowsTo p column 6))
+    let diagonal = placeOf p column column in
+    let full = set (end .1) diagonal (withRotor (rotorOf rotors j) (getD (end .1) diagonal nan)) in
+    row (pathParts p parents kinds column j) (part diagonal 1 ∷ cond (eqb (p .lead) 0) [] (rowsTo p column 6))
     (climb-sets (λ (s : Wrench × List Float). s .1) (parentOf parents) (walkStep p kinds axes column) (entryParts p kinds column) (step-sets p kinds axes column) (suc j) j from [] ws (none ws))
-    (way same (eqb (p .lead) 0) (none (end .1)) (six-sets p column (rotatedOf (end .0) r) (end .1)))
-column-sets p r parents kinds axes Nothing ws = none ws
+    (then (here (set-outside _ _ _)) (there (way same (eqb (p .lead) 0) (none full) (six-sets p column (rotatedOf (end .0) r) full))))
+column-sets p r parents kinds axes rotors Nothing ws = none ws
 
 -- ---- a visit
 
@@ -135,9 +137,9 @@ unfolding jointParts jointVisit
 joint-sets p r m q k ws =
     let n = p .n in
     let j = n + n - 1 - k in
-    way same (ltb k n) (frame-sets m q k ws)
+    way same (ltb k n) (frame-sets (m .parents) (m .kinds) (m .origins) (m .axes) (m .links) q k ws)
     (way same (ltb k (n + n)) (composite-sets p (parentOf (m .parents) j) j ws)
-    (column-sets p r (m .parents) (m .kinds) (m .axes) (activeJoint (m .kinds) n (k - (n + n))) ws))
+    (column-sets p r (m .parents) (m .kinds) (m .axes) (m .rotors) (activeJoint (m .kinds) n (k - (n + n))) ws))
 
 loads-sets : (p : Plan) (r : Quaternion) (root : Link) (k : ℕ) (ws : List Float) → Sets (columnsTo p k) ws (baseLoadsTo p r root k ws)
 unfolding columnsTo baseLoadsTo

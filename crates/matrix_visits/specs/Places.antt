@@ -48,11 +48,11 @@ unfoldable pub rowsTo : Plan → ℕ → ℕ → List Part
 rowsTo p column zero = []
 rowsTo p column (suc k) = rowsTo p column k ++ pairParts p k column
 
--- the joint's column, with the base's six rows where the root floats
+-- the joint's column, its diagonal entry once more, with its rotor, and the base's six rows where the root floats
 unfoldable pub columnParts : Plan → List ℕ → List ℕ → Place → List Part
 columnParts p parents kinds (At j) =
     let column = p .lead + activesOf kinds j in
-    pathParts p parents kinds column j ++ cond (eqb (p .lead) 0) [] (rowsTo p column 6)
+    pathParts p parents kinds column j ++ (part (placeOf p column column) 1 ∷ cond (eqb (p .lead) 0) [] (rowsTo p column 6))
 columnParts p parents kinds Nothing = []
 
 -- ---- the root's visit

@@ -18,7 +18,7 @@ begin-requires : tie.Need-begin-requires
 begin-requires c κs = search needs
 
 joint-visit-requires : tie.Need-joint-visit-requires
-joint-visit-requires c κs = search needs
+joint-visit-requires c κs = let b8 = c .before .before .before .before .before .before .before .before in (b8 .pre .0, search needs, b8 .pre .2, omega (arith, b8 .pre .0 .sided, c .before .if1 .taken))
 
 same-length : tie.Need-same-length
 same-length c = search needs
