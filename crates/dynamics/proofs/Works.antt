@@ -101,20 +101,20 @@ module _ (c : Calculation) (n : ℕ) (parents kinds : List ℕ) (a : ℕ) {f : B
         rw (ep, ef, ec) (ready, rw ec at w)
 
   -- and what it answers
-  module _ (origins axes links : List Float) (i : Inputs) (budget : ℕ) (from : Position) (ws out : List Float) (s : Progress) {t : Answer} (et : t ≡ answerBy from s) {ws′ out′ : List Float} where
+  module _ (origins axes links rotors : List Float) (i : Inputs) (budget : ℕ) (from : Position) (ws out : List Float) (s : Progress) {t : Answer} (et : t ≡ answerBy from s) {ws′ out′ : List Float} where
     pub ran-matrix : {mode : Mode} (r : Quaternion) → c ≡ Matrix mode → r ≡ matrix.rotationOf mode
-        → (s, ws′, out′) ≡ iterate (stepBy (matrix-visits.visitsBy p r parents kinds origins axes links (i .q)) (matrixPlace (p .n))) budget (opening from, ws, out)
-        → (t, ws′, out′) ≡ ran (workBy c n parents kinds origins axes links i) budget from ws out
+        → (s, ws′, out′) ≡ iterate (stepBy (matrix-visits.visitsBy p r parents kinds origins axes links rotors (i .q)) (matrixPlace (p .n))) budget (opening from, ws, out)
+        → (t, ws′, out′) ≡ ran (workBy c n parents kinds origins axes links rotors i) budget from ws out
     unfolding massMatrix planBy
     ran-matrix {mode = mode} r ec er es =
-        let run : (s, ws′, out′) ≡ iterate (stepOf (massMatrix mode (bundle n parents kinds origins axes links) (i .q))) budget (opening from, ws, out) = rw (ep, ef, ec, ea, er) at es in
+        let run : (s, ws′, out′) ≡ iterate (stepOf (massMatrix mode (bundle n parents kinds origins axes links rotors) (i .q))) budget (opening from, ws, out) = rw (ep, ef, ec, ea, er) at es in
         rw (ec, et) (ap (λ (k : State). (answerBy from (k .0), k .1, k .2)) run)
 
     pub ran-forward : {mode : Root} (rotation : Quaternion) (base velocity : Twist) → c ≡ Forward mode → rotation ≡ forward.rotationOf mode → base ≡ forward.baseVelocity mode
         → velocity ≡ rootVelocity rotation base
-        → (s, ws′, out′) ≡ iterate (stepBy (forward-visits.visitsBy p rotation velocity parents kinds origins axes links i) (resultsPlace (p .n))) budget (opening from, ws, out)
-        → (t, ws′, out′) ≡ ran (workBy c n parents kinds origins axes links i) budget from ws out
+        → (s, ws′, out′) ≡ iterate (stepBy (forward-visits.visitsBy p rotation velocity parents kinds origins axes links rotors i) (resultsPlace (p .n))) budget (opening from, ws, out)
+        → (t, ws′, out′) ≡ ran (workBy c n parents kinds origins axes links rotors i) budget from ws out
     unfolding forwardDynamics planBy
     ran-forward {mode = mode} rotation base velocity ec er eb ev es =
-        let run : (s, ws′, out′) ≡ iterate (stepOf (forwardDynamics mode (bundle n parents kinds origins axes links) i)) budget (opening from, ws, out) = rw (ep, ef, ec, ea, ev, er, eb) at es in
+        let run : (s, ws′, out′) ≡ iterate (stepOf (forwardDynamics mode (bundle n parents kinds origins axes links rotors) i)) budget (opening from, ws, out) = rw (ep, ef, ec, ea, ev, er, eb) at es in
         rw (ec, et) (ap (λ (k : State). (answerBy from (k .0), k .1, k .2)) run)

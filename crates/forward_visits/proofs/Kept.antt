@@ -14,7 +14,7 @@ use Rattle.refusals.specs.declared.Verdict.{Verdict}
 use Rattle.refusals.specs.declared.Verdict.the-variants.{Fine, Refused}
 use Rattle.spatial.specs.declared.twist.Twist.{Twist}
 use Rattle.slots.proofs.Lengths.{length-putTo, length-putTwist, length-putWrench, length-putFrame, length-zeroTo}
-use Rattle.arm.specs.Model.{parentOf, motionOf}
+use Rattle.arm.specs.Model.{parentOf, motionOf, rotorOf}
 use Rattle.arm.specs.Topology.{activesOf}
 use Rattle.arm.specs.declared.joint.Motion.{Motion}
 use Rattle.arm.specs.declared.model.Model.{Model}
@@ -54,9 +54,9 @@ length-begun : (n : ℕ) (velocity : Twist) (links : List Float) (loaded : List 
 unfolding begunOf putRoot
 length-begun n velocity links loaded loads at ws = either-way length (eqb at 0) (simp (length-putWrench, length-putTo, length-loads)) refl
 
-length-first : (velocity : Twist) (m : Model) (q qd : List Float) (j : ℕ) (ws : List Float) → length (firstVisit velocity m q qd j ws) ≡ length ws
+length-first : (velocity : Twist) (parents kinds : List ℕ) (origins axes links q qd : List Float) (j : ℕ) (ws : List Float) → length (firstVisit velocity parents kinds origins axes links q qd j ws) ≡ length ws
 unfolding firstVisit putFirst
-length-first velocity m q qd j ws = simp (length-putTo, length-putWrench, length-putTwist, length-putFrame)
+length-first velocity parents kinds origins axes links q qd j ws = simp (length-putTo, length-putWrench, length-putTwist, length-putFrame)
 
 length-addInto : (motion : Motion) (at j : ℕ) (ws : List Float) → length (addInto motion at j ws) ≡ length ws
 unfolding addInto addWhole addReduced addMoved addBody
@@ -69,15 +69,15 @@ length-propagated p motion parent j ws =
     (either-way length (eqb (p .lead) 0) refl (length-addInto motion (rootInertiaPlace (p .n)) j ws))
     (length-addInto motion (inertiaPlace (parent - 1)) j ws)
 
-size-eliminated : (p : Plan) (motion : Motion) (number : ℕ) (forces : List Float) (j : ℕ) (ws : List Float) → size (eliminated p motion number forces j ws) ≡ length ws
+size-eliminated : (p : Plan) (motion : Motion) (rotor : Float) (number : ℕ) (forces : List Float) (j : ℕ) (ws : List Float) → size (eliminated p motion rotor number forces j ws) ≡ length ws
 unfolding eliminated keptTerm putTerm
-size-eliminated p motion number forces j ws = either-way size (fixedBy motion) refl (size-unless _ ws _ (length ws) refl (simp (length-set, length-putWrench)))
+size-eliminated p motion rotor number forces j ws = either-way size (fixedBy motion) refl (size-unless _ ws _ (length ws) refl (simp (length-set, length-putWrench)))
 
-size-second : (p : Plan) (parents kinds : List ℕ) (axes forces : List Float) (j : ℕ) (ws : List Float) → size (secondVisit p parents kinds axes forces j ws) ≡ length ws
+size-second : (p : Plan) (parents kinds : List ℕ) (axes rotors forces : List Float) (j : ℕ) (ws : List Float) → size (secondVisit p parents kinds axes rotors forces j ws) ≡ length ws
 unfolding secondVisit
-size-second p parents kinds axes forces j ws =
+size-second p parents kinds axes rotors forces j ws =
     let motion = motionOf kinds axes j in
-    let e = size-eliminated p motion (activesOf kinds j) forces j ws in
+    let e = size-eliminated p motion (rotorOf rotors j) (activesOf kinds j) forces j ws in
     size-unless _ _ _ (length ws) e (length-propagated p motion (parentOf parents j) j _ ∙ e)
 
 size-root : (p : Plan) (rotation : Quaternion) (velocity : Twist) (forces ws : List Float) → size (rootVisit p rotation velocity forces ws) ≡ length ws
@@ -110,8 +110,8 @@ module _ (p : Plan) (rotation : Quaternion) (velocity : Twist) (m : Model) (q qd
   unfolding passVisit
   size-pass at ws =
       let n = p .n in
-      either-way size (ltb at n) (length-first velocity m q qd at ws)
-      (either-way size (ltb at (n + n)) (size-second p (m .parents) (m .kinds) (m .axes) forces (n + n - 1 - at) ws)
+      either-way size (ltb at n) (length-first velocity (m .parents) (m .kinds) (m .origins) (m .axes) (m .links) q qd at ws)
+      (either-way size (ltb at (n + n)) (size-second p (m .parents) (m .kinds) (m .axes) (m .rotors) forces (n + n - 1 - at) ws)
       (either-way size (eqb at (n + n)) (size-root p rotation velocity forces ws) (size-third p (m .parents) (m .kinds) (m .axes) (at - (n + n) - 1) ws)))
 
   module _ (loaded : List ℕ) (loads : List Float) (at : ℕ) (ws : List Float) where

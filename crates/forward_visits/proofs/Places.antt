@@ -15,7 +15,7 @@ use Rattle.spatial.specs.declared.wrench.Wrench.{Wrench}
 use Rattle.slots.specs.Parts.{Part, part, Sets}
 use Rattle.slots.proofs.Sets.{none, here, there, then, row, choice, way}
 use Rattle.slots.proofs.Blocks.{Outside, wider, both, set-outside, putTwist-outside, putWrench-outside, putFrame-outside, putTo-outside, zeroTo-outside}
-use Rattle.arm.specs.Model.{parentOf, motionOf}
+use Rattle.arm.specs.Model.{parentOf, motionOf, rotorOf}
 use Rattle.arm.specs.Topology.{activesOf}
 use Rattle.arm.specs.declared.joint.Motion.{Motion}
 use Rattle.arm.specs.declared.model.Model.{Model}
@@ -69,9 +69,9 @@ begun-sets n velocity links loaded loads k ws =
     (then (there (there (loads-sets loaded loads n ws))) (then (here (putTo-outside _ _ _ 36)) (there (here (putWrench-outside _ _ _)))))
     (none ws)
 
-first-sets : (velocity : Twist) (m : Model) (q qd : List Float) (j : ℕ) (ws : List Float) → Sets (firstParts j) ws (firstVisit velocity m q qd j ws)
+first-sets : (velocity : Twist) (parents kinds : List ℕ) (origins axes links q qd : List Float) (j : ℕ) (ws : List Float) → Sets (firstParts j) ws (firstVisit velocity parents kinds origins axes links q qd j ws)
 unfolding firstParts firstVisit putFirst
-first-sets velocity m q qd j ws =
+first-sets velocity parents kinds origins axes links q qd j ws =
     then (here (putFrame-outside _ _ _))
     (then (there (here (putTwist-outside _ _ _)))
     (then (there (there (here (putTwist-outside _ _ _))))
@@ -79,9 +79,9 @@ first-sets velocity m q qd j ws =
 
 -- ---- the second pass
 
-term-sets : (p : Plan) (motion : Motion) (number : ℕ) (forces : List Float) (j : ℕ) (ws : List Float) → Sets (termParts motion j) ws (eliminated p motion number forces j ws .1)
+term-sets : (p : Plan) (motion : Motion) (rotor : Float) (number : ℕ) (forces : List Float) (j : ℕ) (ws : List Float) → Sets (termParts motion j) ws (eliminated p motion rotor number forces j ws .1)
 unfolding termParts eliminated keptTerm
-term-sets p motion number forces j ws = way left (fixedBy motion) (none ws) (unless _ (none ws) (here (putTerm-outside _ _ _)))
+term-sets p motion rotor number forces j ws = way left (fixedBy motion) (none ws) (unless _ (none ws) (here (putTerm-outside _ _ _)))
 
 -- an inertia, and its force at a place behind it
 module _ (at behind : ℕ) (h : behind ≡ at + 36) where
@@ -100,13 +100,13 @@ propagated-sets p motion parent j ws =
     (way same (eqb (p .lead) 0) (none ws) (added-sets (rootInertiaPlace (p .n)) (rootForcePlace (p .n)) refl motion j ws))
     (added-sets (inertiaPlace (parent - 1)) (forcePlace (parent - 1)) (omega arith) motion j ws)
 
-second-sets : (p : Plan) (parents kinds : List ℕ) (axes forces : List Float) (j : ℕ) (ws : List Float)
-    → Sets (termParts (motionOf kinds axes j) j ++ parentParts p (parentOf parents j)) ws (secondVisit p parents kinds axes forces j ws .1)
+second-sets : (p : Plan) (parents kinds : List ℕ) (axes rotors forces : List Float) (j : ℕ) (ws : List Float)
+    → Sets (termParts (motionOf kinds axes j) j ++ parentParts p (parentOf parents j)) ws (secondVisit p parents kinds axes rotors forces j ws .1)
 unfolding secondVisit
-second-sets p parents kinds axes forces j ws =
+second-sets p parents kinds axes rotors forces j ws =
     let motion = motionOf kinds axes j in
     let parent = parentOf parents j in
-    let e = term-sets p motion (activesOf kinds j) forces j ws in
+    let e = term-sets p motion (rotorOf rotors j) (activesOf kinds j) forces j ws in
     unless _ (row (termParts motion j) (parentParts p parent) e (none _)) (row (termParts motion j) (parentParts p parent) e (propagated-sets p motion parent j _))
 
 -- ---- the root and the third pass
@@ -134,8 +134,8 @@ module _ (p : Plan) (rotation : Quaternion) (velocity : Twist) (m : Model) (q qd
   unfolding passParts passVisit
   pass-sets k ws =
       let n = p .n in
-      way left (ltb k n) (first-sets velocity m q qd k ws)
-      (way left (ltb k (n + n)) (second-sets p (m .parents) (m .kinds) (m .axes) forces (n + n - 1 - k) ws)
+      way left (ltb k n) (first-sets velocity (m .parents) (m .kinds) (m .origins) (m .axes) (m .links) q qd k ws)
+      (way left (ltb k (n + n)) (second-sets p (m .parents) (m .kinds) (m .axes) (m .rotors) forces (n + n - 1 - k) ws)
       (way left (eqb k (n + n)) (root-sets p rotation velocity forces ws) (third-sets p (m .parents) (m .kinds) (m .axes) (k - (n + n) - 1) ws)))
 
   -- A VISIT SETS NO OTHER PLACE, whatever the arguments are: past the workspace's end a number is NaN before and after

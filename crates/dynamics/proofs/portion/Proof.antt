@@ -33,7 +33,7 @@ ran-requires : tie.Need-ran-requires
 ran-requires c κs = let b3 = c .before .before .before in let b5 = b3 .before .before in let b7 = b5 .before .before in let b9 = b7 .before .before in let b17 = b9 .before .before .before .before .before .before .before .before in let v = both-fine _ _ (sym (b7 .judged-at .ensures) ∙ b5 .enum-told .given .1) in (b9 .active-numbers .ensures, b3 .number-at .ensures, v .0, within-judged (floats (b17 .args .c)) (b17 .args .n) _ _ (b17 .args .position) refl (isMatrix (b17 .args .c)) (rw (← b3 .number-at .ensures) at (v .1)))
 
 returns : tie.Need-returns
-returns c = let b2 = c .before .before in let b4 = b2 .before .before in let b14 = b4 .before .before .before .before .before .before .before .before .before .before in portion-refused _ _ _ (b14 .args .position) (b4 .judged-at .ensures ∙ checks-are (b14 .args .c) (bundle (b14 .args .n) (b14 .args .parents .now) (b14 .args .kinds .now) (b14 .args .origins .now) (b14 .args .axes .now) (b14 .args .links .now)) (inputsBy (b14 .args .q .now) (b14 .args .qd .now) (b14 .args .forces .now) (b14 .args .loaded .now) (b14 .args .loads .now)) (b14 .args .position) (length (b14 .args .ws .now)) (length (b14 .args .out .now))) (b14 .args .budget) (b2 .v .given .1) (c .refused .ensures)
+returns c = let b2 = c .before .before in let b4 = b2 .before .before in let b14 = b4 .before .before .before .before .before .before .before .before .before .before in portion-refused _ _ _ (b14 .args .position) (b4 .judged-at .ensures ∙ checks-are (b14 .args .c) (bundle (b14 .args .n) (b14 .args .parents .now) (b14 .args .kinds .now) (b14 .args .origins .now) (b14 .args .axes .now) (b14 .args .links .now) (b14 .args .rotors .now)) (inputsBy (b14 .args .q .now) (b14 .args .qd .now) (b14 .args .forces .now) (b14 .args .loaded .now) (b14 .args .loads .now)) (b14 .args .position) (length (b14 .args .ws .now)) (length (b14 .args .out .now))) (b14 .args .budget) (b2 .v .given .1) (c .refused .ensures)
 
 same-length : tie.Need-same-length
 same-length c = search needs
@@ -42,7 +42,7 @@ same-length-2 : tie.Need-same-length-2
 same-length-2 c = search needs
 
 returns-2 : tie.Need-returns-2
-returns-2 c = let b4 = c .before .before .before .before in let b10 = b4 .before .before .before .before .before .before in let b12 = b10 .before .before in let b22 = b12 .before .before .before .before .before .before .before .before .before .before in portion-fine _ _ _ (b22 .args .position) (b12 .judged-at .ensures ∙ checks-are (b22 .args .c) (bundle (b22 .args .n) (b22 .args .parents .now) (b22 .args .kinds .now) (b22 .args .origins .now) (b22 .args .axes .now) (b22 .args .links .now)) (inputsBy (b22 .args .q .now) (b22 .args .qd .now) (b22 .args .forces .now) (b22 .args .loaded .now) (b22 .args .loads .now)) (b22 .args .position) (length (b22 .args .ws .now)) (length (b22 .args .out .now))) (b22 .args .budget) (b10 .enum-told .given .1) (b4 .ran .ensures)
+returns-2 c = let b4 = c .before .before .before .before in let b10 = b4 .before .before .before .before .before .before in let b12 = b10 .before .before in let b22 = b12 .before .before .before .before .before .before .before .before .before .before in portion-fine _ _ _ (b22 .args .position) (b12 .judged-at .ensures ∙ checks-are (b22 .args .c) (bundle (b22 .args .n) (b22 .args .parents .now) (b22 .args .kinds .now) (b22 .args .origins .now) (b22 .args .axes .now) (b22 .args .links .now) (b22 .args .rotors .now)) (inputsBy (b22 .args .q .now) (b22 .args .qd .now) (b22 .args .forces .now) (b22 .args .loaded .now) (b22 .args .loads .now)) (b22 .args .position) (length (b22 .args .ws .now)) (length (b22 .args .out .now))) (b22 .args .budget) (b10 .enum-told .given .1) (b4 .ran .ensures)
 
 pub portion-spec : {M : Type 1} → statement M
 portion-spec =

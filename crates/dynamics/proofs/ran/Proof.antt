@@ -50,7 +50,7 @@ same-length-2 : tie.Need-same-length-2
 same-length-2 c = search needs
 
 returns : tie.Need-returns
-returns c = let b5 = c .before .before .before .before .before in let b8 = b5 .before .before .before in let b10 = b8 .before .before in let b12 = b10 .before .before in let b13 = b12 .before in let b21 = b13 .before .before .before .before .before .before .before .before in ran-matrix (b21 .args .c) (b21 .args .n) (b21 .args .parents .now) (b21 .args .kinds .now) (b21 .args .a) (b21 .pre .1) (b13 .floats .ensures) (b12 .planned .ensures .0) (b21 .args .origins .now) (b21 .args .axes .now) (b21 .args .links .now) (inputsBy (b21 .args .q .now) (b21 .args .qd .now) (b21 .args .forces .now) (b21 .args .loaded .now) (b21 .args .loads .now)) (b21 .args .budget) (b21 .args .from) (b21 .args .ws .now) (b21 .args .out .now) _ (c .answer .ensures) _ (b10 .c .given .1) (b8 .rotation .ensures) (b5 .run .ensures)
+returns c = let b5 = c .before .before .before .before .before in let b8 = b5 .before .before .before in let b10 = b8 .before .before in let b12 = b10 .before .before in let b13 = b12 .before in let b21 = b13 .before .before .before .before .before .before .before .before in ran-matrix (b21 .args .c) (b21 .args .n) (b21 .args .parents .now) (b21 .args .kinds .now) (b21 .args .a) (b21 .pre .1) (b13 .floats .ensures) (b12 .planned .ensures .0) (b21 .args .origins .now) (b21 .args .axes .now) (b21 .args .links .now) (b21 .args .rotors .now) (inputsBy (b21 .args .q .now) (b21 .args .qd .now) (b21 .args .forces .now) (b21 .args .loaded .now) (b21 .args .loads .now)) (b21 .args .budget) (b21 .args .from) (b21 .args .ws .now) (b21 .args .out .now) _ (c .answer .ensures) _ (b10 .c .given .1) (b8 .rotation .ensures) (b5 .run .ensures)
 
 same-length-3 : tie.Need-same-length-3
 same-length-3 c = search needs
@@ -59,7 +59,7 @@ same-length-4 : tie.Need-same-length-4
 same-length-4 c = search needs
 
 returns-2 : tie.Need-returns-2
-returns-2 c = let b5 = c .before .before .before .before .before in let b8 = b5 .before .before .before in let b9 = b8 .before in let b10 = b9 .before in let b12 = b10 .before .before in let b14 = b12 .before .before in let b15 = b14 .before in let b23 = b15 .before .before .before .before .before .before .before .before in ran-forward (b23 .args .c) (b23 .args .n) (b23 .args .parents .now) (b23 .args .kinds .now) (b23 .args .a) (b23 .pre .1) (b15 .floats .ensures) (b14 .planned .ensures .0) (b23 .args .origins .now) (b23 .args .axes .now) (b23 .args .links .now) (inputsBy (b23 .args .q .now) (b23 .args .qd .now) (b23 .args .forces .now) (b23 .args .loaded .now) (b23 .args .loads .now)) (b23 .args .budget) (b23 .args .from) (b23 .args .ws .now) (b23 .args .out .now) _ (c .answer2 .ensures) _ _ _ (b12 .c2 .given .1) (b10 .rotation2 .ensures) (b9 .base .ensures) (b8 .root-velocity .ensures) (b5 .run2 .ensures)
+returns-2 c = let b5 = c .before .before .before .before .before in let b8 = b5 .before .before .before in let b9 = b8 .before in let b10 = b9 .before in let b12 = b10 .before .before in let b14 = b12 .before .before in let b15 = b14 .before in let b23 = b15 .before .before .before .before .before .before .before .before in ran-forward (b23 .args .c) (b23 .args .n) (b23 .args .parents .now) (b23 .args .kinds .now) (b23 .args .a) (b23 .pre .1) (b15 .floats .ensures) (b14 .planned .ensures .0) (b23 .args .origins .now) (b23 .args .axes .now) (b23 .args .links .now) (b23 .args .rotors .now) (inputsBy (b23 .args .q .now) (b23 .args .qd .now) (b23 .args .forces .now) (b23 .args .loaded .now) (b23 .args .loads .now)) (b23 .args .budget) (b23 .args .from) (b23 .args .ws .now) (b23 .args .out .now) _ (c .answer2 .ensures) _ _ _ (b12 .c2 .given .1) (b10 .rotation2 .ensures) (b9 .base .ensures) (b8 .root-velocity .ensures) (b5 .run2 .ensures)
 
 pub ran-spec : {M : Type 1} → statement M
 ran-spec =

@@ -51,13 +51,13 @@ begun-requires : tie.Need-begun-requires
 begun-requires c κs = search needs
 
 returns : tie.Need-returns
-returns c = let b1 = c .before in let b2 = b1 .before in let b3 = b2 .before in let b5 = b3 .before .before in let b7 = b5 .before .before in let b17 = b7 .before .before .before .before .before .before .before .before .before .before in start-refused _ _ _ (b7 .judged .ensures ∙ inputs-are (b17 .args .c) (bundle (b17 .args .n) (b17 .args .parents .now) (b17 .args .kinds .now) (b17 .args .origins .now) (b17 .args .axes .now) (b17 .args .links .now)) (inputsBy (b17 .args .q .now) (b17 .args .qd .now) (b17 .args .forces .now) (b17 .args .loaded .now) (b17 .args .loads .now)) (length (b17 .args .ws .now)) (length (b17 .args .out .now))) (b5 .v .given .1) (shut-by (b17 .args .c) (bundle (b17 .args .n) (b17 .args .parents .now) (b17 .args .kinds .now) (b17 .args .origins .now) (b17 .args .axes .now) (b17 .args .links .now)) (inputsBy (b17 .args .q .now) (b17 .args .qd .now) (b17 .args .forces .now) (b17 .args .loaded .now) (b17 .args .loads .now)) (b3 .is-matrix .ensures) (b2 .floats .ensures) (b1 .shut .ensures)) (c .refused .ensures)
+returns c = let b1 = c .before in let b2 = b1 .before in let b3 = b2 .before in let b5 = b3 .before .before in let b7 = b5 .before .before in let b17 = b7 .before .before .before .before .before .before .before .before .before .before in start-refused _ _ _ (b7 .judged .ensures ∙ inputs-are (b17 .args .c) (bundle (b17 .args .n) (b17 .args .parents .now) (b17 .args .kinds .now) (b17 .args .origins .now) (b17 .args .axes .now) (b17 .args .links .now) (b17 .args .rotors .now)) (inputsBy (b17 .args .q .now) (b17 .args .qd .now) (b17 .args .forces .now) (b17 .args .loaded .now) (b17 .args .loads .now)) (length (b17 .args .ws .now)) (length (b17 .args .out .now))) (b5 .v .given .1) (shut-by (b17 .args .c) (bundle (b17 .args .n) (b17 .args .parents .now) (b17 .args .kinds .now) (b17 .args .origins .now) (b17 .args .axes .now) (b17 .args .links .now) (b17 .args .rotors .now)) (inputsBy (b17 .args .q .now) (b17 .args .qd .now) (b17 .args .forces .now) (b17 .args .loaded .now) (b17 .args .loads .now)) (b3 .is-matrix .ensures) (b2 .floats .ensures) (b1 .shut .ensures)) (c .refused .ensures)
 
 same-length : tie.Need-same-length
 same-length c = search needs
 
 returns-2 : tie.Need-returns-2
-returns-2 c = let b1 = c .before in let b2 = b1 .before in let b3 = b2 .before in let b6 = b3 .before .before .before in let b8 = b6 .before .before in let b10 = b8 .before .before in let b12 = b10 .before .before in let b22 = b12 .before .before .before .before .before .before .before .before .before .before in start-fine _ _ _ (b12 .judged .ensures ∙ inputs-are (b22 .args .c) (bundle (b22 .args .n) (b22 .args .parents .now) (b22 .args .kinds .now) (b22 .args .origins .now) (b22 .args .axes .now) (b22 .args .links .now)) (inputsBy (b22 .args .q .now) (b22 .args .qd .now) (b22 .args .forces .now) (b22 .args .loaded .now) (b22 .args .loads .now)) (length (b22 .args .ws .now)) (length (b22 .args .out .now))) (b10 .enum-told .given .1) (fresh-by (b22 .args .c) (bundle (b22 .args .n) (b22 .args .parents .now) (b22 .args .kinds .now) (b22 .args .origins .now) (b22 .args .axes .now) (b22 .args .links .now)) (inputsBy (b22 .args .q .now) (b22 .args .qd .now) (b22 .args .forces .now) (b22 .args .loaded .now) (b22 .args .loads .now)) (b3 .is-matrix2 .ensures) (b2 .floats2 .ensures) (b8 .number-at .ensures) (b1 .fresh .ensures)) (b6 .clear .ensures) (c .begun .ensures)
+returns-2 c = let b1 = c .before in let b2 = b1 .before in let b3 = b2 .before in let b6 = b3 .before .before .before in let b8 = b6 .before .before in let b10 = b8 .before .before in let b12 = b10 .before .before in let b22 = b12 .before .before .before .before .before .before .before .before .before .before in start-fine _ _ _ (b12 .judged .ensures ∙ inputs-are (b22 .args .c) (bundle (b22 .args .n) (b22 .args .parents .now) (b22 .args .kinds .now) (b22 .args .origins .now) (b22 .args .axes .now) (b22 .args .links .now) (b22 .args .rotors .now)) (inputsBy (b22 .args .q .now) (b22 .args .qd .now) (b22 .args .forces .now) (b22 .args .loaded .now) (b22 .args .loads .now)) (length (b22 .args .ws .now)) (length (b22 .args .out .now))) (b10 .enum-told .given .1) (fresh-by (b22 .args .c) (bundle (b22 .args .n) (b22 .args .parents .now) (b22 .args .kinds .now) (b22 .args .origins .now) (b22 .args .axes .now) (b22 .args .links .now) (b22 .args .rotors .now)) (inputsBy (b22 .args .q .now) (b22 .args .qd .now) (b22 .args .forces .now) (b22 .args .loaded .now) (b22 .args .loads .now)) (b3 .is-matrix2 .ensures) (b2 .floats2 .ensures) (b8 .number-at .ensures) (b1 .fresh .ensures)) (b6 .clear .ensures) (c .begun .ensures)
 
 pub start-spec : {M : Type 1} → statement M
 start-spec =

@@ -58,7 +58,7 @@ ran-requires : tie.Need-ran-requires
 ran-requires c κs = let b5 = c .before .before .before .before .before in let b9 = b5 .before .before .before .before in let b10 = b9 .before in let b11 = b10 .before in let b12 = b11 .before in let b14 = b12 .before .before in let b16 = b14 .before .before in let b18 = b16 .before .before in let b26 = b18 .before .before .before .before .before .before .before .before in (b18 .active-numbers .ensures, b12 .number-at .ensures, rw (b5 .clear .kept .0) (sym (b16 .judged .ensures) ∙ b14 .enum-told .given .1), fresh-within (b26 .args .c) (b26 .args .n) _ (b11 .is-matrix2 .ensures) (b10 .floats2 .ensures) (b9 .fresh .ensures))
 
 returns : tie.Need-returns
-returns c = let b1 = c .before in let b2 = b1 .before in let b3 = b2 .before in let b5 = b3 .before .before in let b7 = b5 .before .before in let b17 = b7 .before .before .before .before .before .before .before .before .before .before in whole-refused _ _ _ (b7 .judged .ensures ∙ inputs-are (b17 .args .c) (bundle (b17 .args .n) (b17 .args .parents .now) (b17 .args .kinds .now) (b17 .args .origins .now) (b17 .args .axes .now) (b17 .args .links .now)) (inputsBy (b17 .args .q .now) (b17 .args .qd .now) (b17 .args .forces .now) (b17 .args .loaded .now) (b17 .args .loads .now)) (length (b17 .args .ws .now)) (length (b17 .args .out .now))) (b5 .v .given .1) (shut-by (b17 .args .c) (bundle (b17 .args .n) (b17 .args .parents .now) (b17 .args .kinds .now) (b17 .args .origins .now) (b17 .args .axes .now) (b17 .args .links .now)) (inputsBy (b17 .args .q .now) (b17 .args .qd .now) (b17 .args .forces .now) (b17 .args .loaded .now) (b17 .args .loads .now)) (b3 .is-matrix .ensures) (b2 .floats .ensures) (b1 .shut .ensures)) (c .refused .ensures)
+returns c = let b1 = c .before in let b2 = b1 .before in let b3 = b2 .before in let b5 = b3 .before .before in let b7 = b5 .before .before in let b17 = b7 .before .before .before .before .before .before .before .before .before .before in whole-refused _ _ _ (b7 .judged .ensures ∙ inputs-are (b17 .args .c) (bundle (b17 .args .n) (b17 .args .parents .now) (b17 .args .kinds .now) (b17 .args .origins .now) (b17 .args .axes .now) (b17 .args .links .now) (b17 .args .rotors .now)) (inputsBy (b17 .args .q .now) (b17 .args .qd .now) (b17 .args .forces .now) (b17 .args .loaded .now) (b17 .args .loads .now)) (length (b17 .args .ws .now)) (length (b17 .args .out .now))) (b5 .v .given .1) (shut-by (b17 .args .c) (bundle (b17 .args .n) (b17 .args .parents .now) (b17 .args .kinds .now) (b17 .args .origins .now) (b17 .args .axes .now) (b17 .args .links .now) (b17 .args .rotors .now)) (inputsBy (b17 .args .q .now) (b17 .args .qd .now) (b17 .args .forces .now) (b17 .args .loaded .now) (b17 .args .loads .now)) (b3 .is-matrix .ensures) (b2 .floats .ensures) (b1 .shut .ensures)) (c .refused .ensures)
 
 same-length : tie.Need-same-length
 same-length c = search needs
@@ -67,7 +67,7 @@ same-length-2 : tie.Need-same-length-2
 same-length-2 c = search needs
 
 returns-2 : tie.Need-returns-2
-returns-2 c = let b4 = c .before .before .before .before in let b10 = b4 .before .before .before .before .before .before in let b12 = b10 .before .before in let b13 = b12 .before in let b14 = b13 .before in let b15 = b14 .before in let b16 = b15 .before in let b17 = b16 .before in let b19 = b17 .before .before in let b21 = b19 .before .before in let b31 = b21 .before .before .before .before .before .before .before .before .before .before in whole-fine _ _ _ (b21 .judged .ensures ∙ inputs-are (b31 .args .c) (bundle (b31 .args .n) (b31 .args .parents .now) (b31 .args .kinds .now) (b31 .args .origins .now) (b31 .args .axes .now) (b31 .args .links .now)) (inputsBy (b31 .args .q .now) (b31 .args .qd .now) (b31 .args .forces .now) (b31 .args .loaded .now) (b31 .args .loads .now)) (length (b31 .args .ws .now)) (length (b31 .args .out .now))) (b19 .enum-told .given .1) (fresh-by (b31 .args .c) (bundle (b31 .args .n) (b31 .args .parents .now) (b31 .args .kinds .now) (b31 .args .origins .now) (b31 .args .axes .now) (b31 .args .links .now)) (inputsBy (b31 .args .q .now) (b31 .args .qd .now) (b31 .args .forces .now) (b31 .args .loaded .now) (b31 .args .loads .now)) (b16 .is-matrix2 .ensures) (b15 .floats2 .ensures) (b17 .number-at .ensures) (b14 .fresh .ensures)) (b10 .clear .ensures) (visits-by (b31 .args .c) (bundle (b31 .args .n) (b31 .args .parents .now) (b31 .args .kinds .now) (b31 .args .origins .now) (b31 .args .axes .now) (b31 .args .links .now)) (inputsBy (b31 .args .q .now) (b31 .args .qd .now) (b31 .args .forces .now) (b31 .args .loaded .now) (b31 .args .loads .now)) (b13 .is-matrix3 .ensures) (b17 .number-at .ensures) (b12 .visits .ensures)) (b4 .ran .ensures)
+returns-2 c = let b4 = c .before .before .before .before in let b10 = b4 .before .before .before .before .before .before in let b12 = b10 .before .before in let b13 = b12 .before in let b14 = b13 .before in let b15 = b14 .before in let b16 = b15 .before in let b17 = b16 .before in let b19 = b17 .before .before in let b21 = b19 .before .before in let b31 = b21 .before .before .before .before .before .before .before .before .before .before in whole-fine _ _ _ (b21 .judged .ensures ∙ inputs-are (b31 .args .c) (bundle (b31 .args .n) (b31 .args .parents .now) (b31 .args .kinds .now) (b31 .args .origins .now) (b31 .args .axes .now) (b31 .args .links .now) (b31 .args .rotors .now)) (inputsBy (b31 .args .q .now) (b31 .args .qd .now) (b31 .args .forces .now) (b31 .args .loaded .now) (b31 .args .loads .now)) (length (b31 .args .ws .now)) (length (b31 .args .out .now))) (b19 .enum-told .given .1) (fresh-by (b31 .args .c) (bundle (b31 .args .n) (b31 .args .parents .now) (b31 .args .kinds .now) (b31 .args .origins .now) (b31 .args .axes .now) (b31 .args .links .now) (b31 .args .rotors .now)) (inputsBy (b31 .args .q .now) (b31 .args .qd .now) (b31 .args .forces .now) (b31 .args .loaded .now) (b31 .args .loads .now)) (b16 .is-matrix2 .ensures) (b15 .floats2 .ensures) (b17 .number-at .ensures) (b14 .fresh .ensures)) (b10 .clear .ensures) (visits-by (b31 .args .c) (bundle (b31 .args .n) (b31 .args .parents .now) (b31 .args .kinds .now) (b31 .args .origins .now) (b31 .args .axes .now) (b31 .args .links .now) (b31 .args .rotors .now)) (inputsBy (b31 .args .q .now) (b31 .args .qd .now) (b31 .args .forces .now) (b31 .args .loaded .now) (b31 .args .loads .now)) (b13 .is-matrix3 .ensures) (b17 .number-at .ensures) (b12 .visits .ensures)) (b4 .ran .ensures)
 
 pub whole-spec : {M : Type 1} → statement M
 whole-spec =

@@ -15,11 +15,11 @@ use Rattle.calculations.proofs.make.portions.Lts as lts
 use Rattle.dynamics.proofs.portion.Reads as portion-reads
 
 abbrev Inv-loop : tie.InvT-loop
-Inv-loop c n parents kinds origins axes links q qd forces loaded loads budgets counts₀ ws₀ out₀ answer₀ k₀ counts ws out answer k =
-    (k ≤ length budgets) × (length counts ≡ length counts₀) × (length ws ≡ length ws₀) × (length out ≡ length out₀) × (after (workBy c n parents kinds origins axes links (inputsBy q qd forces loaded loads)) budgets k counts (answer, ws, out) ≡ inPortions (workBy c n parents kinds origins axes links (inputsBy q qd forces loaded loads)) budgets (answer₀, ws₀, out₀))
+Inv-loop c n parents kinds origins axes links rotors q qd forces loaded loads budgets counts₀ ws₀ out₀ answer₀ k₀ counts ws out answer k =
+    (k ≤ length budgets) × (length counts ≡ length counts₀) × (length ws ≡ length ws₀) × (length out ≡ length out₀) × (after (workBy c n parents kinds origins axes links rotors (inputsBy q qd forces loaded loads)) budgets k counts (answer, ws, out) ≡ inPortions (workBy c n parents kinds origins axes links rotors (inputsBy q qd forces loaded loads)) budgets (answer₀, ws₀, out₀))
 
 abbrev μ-loop : tie.MeasureT-loop
-μ-loop c n parents kinds origins axes links q qd forces loaded loads budgets counts₀ ws₀ out₀ answer₀ k₀ counts ws out answer k = length budgets - k
+μ-loop c n parents kinds origins axes links rotors q qd forces loaded loads budgets counts₀ ws₀ out₀ answer₀ k₀ counts ws out answer k = length budgets - k
 
 loop-holds : tie.Need-loop-holds Inv-loop μ-loop
 loop-holds c = (search needs, refl, refl, refl, refl)
@@ -46,7 +46,7 @@ loop-less : tie.Need-loop-less Inv-loop μ-loop
 loop-less c = search needs
 
 loop-again : tie.Need-loop-again Inv-loop μ-loop
-loop-again c = let b4 = c .before .before .before .before in let b9 = b4 .before .before .before .before .before in let b10 = b9 .before in let b20 = b10 .before .before .before .before .before .before .before .before .before .before in let h : b10 .loop .k < length (b10 .loop .counts) = omega (arith, b20 .pre .0, b20 .pre .1, b10 .loop .inv .1, b9 .loop-test .taken) in (search needs, length-set (b10 .loop .counts) (b10 .loop .k) (b4 .portion .result .visits) ∙ b10 .loop .inv .1, search needs, search needs, portion-on (workBy (b20 .args .c) (b20 .args .n) (b20 .args .parents .now) (b20 .args .kinds .now) (b20 .args .origins .now) (b20 .args .axes .now) (b20 .args .links .now) (inputsBy (b20 .args .q .now) (b20 .args .qd .now) (b20 .args .forces .now) (b20 .args .loaded .now) (b20 .args .loads .now))) (b20 .args .budgets .now) (b10 .loop .k) (b10 .loop .counts) (b10 .loop .answer, b10 .loop .ws, b10 .loop .out) (search needs) h (b4 .portion .ensures) ∙ b10 .loop .inv .4)
+loop-again c = let b4 = c .before .before .before .before in let b9 = b4 .before .before .before .before .before in let b10 = b9 .before in let b20 = b10 .before .before .before .before .before .before .before .before .before .before in let h : b10 .loop .k < length (b10 .loop .counts) = omega (arith, b20 .pre .0, b20 .pre .1, b10 .loop .inv .1, b9 .loop-test .taken) in (search needs, length-set (b10 .loop .counts) (b10 .loop .k) (b4 .portion .result .visits) ∙ b10 .loop .inv .1, search needs, search needs, portion-on (workBy (b20 .args .c) (b20 .args .n) (b20 .args .parents .now) (b20 .args .kinds .now) (b20 .args .origins .now) (b20 .args .axes .now) (b20 .args .links .now) (b20 .args .rotors .now) (inputsBy (b20 .args .q .now) (b20 .args .qd .now) (b20 .args .forces .now) (b20 .args .loaded .now) (b20 .args .loads .now))) (b20 .args .budgets .now) (b10 .loop .k) (b10 .loop .counts) (b10 .loop .answer, b10 .loop .ws, b10 .loop .out) (search needs) h (b4 .portion .ensures) ∙ b10 .loop .inv .4)
 
 same-length : tie.Need-same-length Inv-loop μ-loop
 same-length c = search needs

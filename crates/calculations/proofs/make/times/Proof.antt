@@ -15,11 +15,11 @@ use Rattle.calculations.proofs.make.times.Lts as lts
 use Rattle.calculations.proofs.make.once.Reads as once-reads
 
 abbrev Inv-loop : tie.InvT-loop
-Inv-loop count c n parents kinds origins axes links q qd forces loaded loads budgets counts₀ ws₀ out₀ last₀ left₀ counts ws out last left =
-    (last .counts ≤ length counts) × (length counts ≡ length counts₀) × (length ws ≡ length ws₀) × (length out ≡ length out₀) × (iterate (againOf (workBy c n parents kinds origins axes links (inputsBy q qd forces loaded loads)) budgets) (left - 1) (madeBy last counts ws out) ≡ iterate (againOf (workBy c n parents kinds origins axes links (inputsBy q qd forces loaded loads)) budgets) (left₀ - 1) (madeBy last₀ counts₀ ws₀ out₀))
+Inv-loop count c n parents kinds origins axes links rotors q qd forces loaded loads budgets counts₀ ws₀ out₀ last₀ left₀ counts ws out last left =
+    (last .counts ≤ length counts) × (length counts ≡ length counts₀) × (length ws ≡ length ws₀) × (length out ≡ length out₀) × (iterate (againOf (workBy c n parents kinds origins axes links rotors (inputsBy q qd forces loaded loads)) budgets) (left - 1) (madeBy last counts ws out) ≡ iterate (againOf (workBy c n parents kinds origins axes links rotors (inputsBy q qd forces loaded loads)) budgets) (left₀ - 1) (madeBy last₀ counts₀ ws₀ out₀))
 
 abbrev μ-loop : tie.MeasureT-loop
-μ-loop count c n parents kinds origins axes links q qd forces loaded loads budgets counts₀ ws₀ out₀ last₀ left₀ counts ws out last left =
+μ-loop count c n parents kinds origins axes links rotors q qd forces loaded loads budgets counts₀ ws₀ out₀ last₀ left₀ counts ws out last left =
     left
 
 once-requires : tie.Need-once-requires Inv-loop μ-loop

@@ -19,15 +19,15 @@ use Rattle.forward_dynamics.proofs.run.run.Statement.{statement}
 use Rattle.forward_dynamics.proofs.run.run.Tie as tie
 
 -- so many visits, as the definition has them
-abbrev visited : Plan → Quaternion → Twist → List ℕ → List ℕ → List Float → List Float → List Float → Inputs → ℕ → State → State
-visited p r v parents kinds origins axes links i k s = iterate (stepBy (visitsBy p r v parents kinds origins axes links i) (resultsPlace (p .n))) k s
+abbrev visited : Plan → Quaternion → Twist → List ℕ → List ℕ → List Float → List Float → List Float → List Float → Inputs → ℕ → State → State
+visited p r v parents kinds origins axes links rotors i k s = iterate (stepBy (visitsBy p r v parents kinds origins axes links rotors i) (resultsPlace (p .n))) k s
 
 abbrev Inv-loop : tie.InvT-loop
-Inv-loop p r v parents kinds origins axes links numbers q qd forces loaded loads ws₀ out₀ budget s₀ left₀ ws out s left =
-    (length ws ≡ length ws₀) × (length out ≡ length out₀) × Within false p (s .position) × (visited p r v parents kinds origins axes links (inputsBy q qd forces loaded loads) left (s, ws, out) ≡ visited p r v parents kinds origins axes links (inputsBy q qd forces loaded loads) budget (s₀, ws₀, out₀))
+Inv-loop p r v parents kinds origins axes links rotors numbers q qd forces loaded loads ws₀ out₀ budget s₀ left₀ ws out s left =
+    (length ws ≡ length ws₀) × (length out ≡ length out₀) × Within false p (s .position) × (visited p r v parents kinds origins axes links rotors (inputsBy q qd forces loaded loads) left (s, ws, out) ≡ visited p r v parents kinds origins axes links rotors (inputsBy q qd forces loaded loads) budget (s₀, ws₀, out₀))
 
 abbrev μ-loop : tie.MeasureT-loop
-μ-loop p r v parents kinds origins axes links numbers q qd forces loaded loads ws₀ out₀ budget s₀ left₀ ws out s left = left
+μ-loop p r v parents kinds origins axes links rotors numbers q qd forces loaded loads ws₀ out₀ budget s₀ left₀ ws out s left = left
 
 loop-holds : tie.Need-loop-holds Inv-loop μ-loop
 loop-holds c = let b7 = c .before .before .before .before .before .before .before in (refl, refl, b7 .pre .1, refl)

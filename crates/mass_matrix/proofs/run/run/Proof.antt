@@ -17,15 +17,15 @@ use Rattle.mass_matrix.proofs.run.run.Statement.{statement}
 use Rattle.mass_matrix.proofs.run.run.Tie as tie
 
 -- so many visits, as the definition has them
-abbrev visited : Plan → Quaternion → List ℕ → List ℕ → List Float → List Float → List Float → List Float → ℕ → State → State
-visited p r parents kinds origins axes links q k s = iterate (stepBy (visitsBy p r parents kinds origins axes links q) (matrixPlace (p .n))) k s
+abbrev visited : Plan → Quaternion → List ℕ → List ℕ → List Float → List Float → List Float → List Float → List Float → ℕ → State → State
+visited p r parents kinds origins axes links rotors q k s = iterate (stepBy (visitsBy p r parents kinds origins axes links rotors q) (matrixPlace (p .n))) k s
 
 abbrev Inv-loop : tie.InvT-loop
-Inv-loop p r parents kinds origins axes links numbers q ws₀ out₀ budget s₀ left₀ ws out s left =
-    (length ws ≡ length ws₀) × (length out ≡ length out₀) × Within true p (s .position) × (visited p r parents kinds origins axes links q left (s, ws, out) ≡ visited p r parents kinds origins axes links q budget (s₀, ws₀, out₀))
+Inv-loop p r parents kinds origins axes links rotors numbers q ws₀ out₀ budget s₀ left₀ ws out s left =
+    (length ws ≡ length ws₀) × (length out ≡ length out₀) × Within true p (s .position) × (visited p r parents kinds origins axes links rotors q left (s, ws, out) ≡ visited p r parents kinds origins axes links rotors q budget (s₀, ws₀, out₀))
 
 abbrev μ-loop : tie.MeasureT-loop
-μ-loop p r parents kinds origins axes links numbers q ws₀ out₀ budget s₀ left₀ ws out s left = left
+μ-loop p r parents kinds origins axes links rotors numbers q ws₀ out₀ budget s₀ left₀ ws out s left = left
 
 loop-holds : tie.Need-loop-holds Inv-loop μ-loop
 loop-holds c = (refl, refl, search needs, refl)
