@@ -1,3 +1,4 @@
 pub mod Masses
 pub mod Passed
+pub mod Rotors
 pub mod Threes

@@ -13,7 +13,7 @@ use Rattle.refusals.specs.declared.Verdict.the-variants.{Fine}
 use Rattle.arm.specs.Model.{linkOf}
 use Rattle.builder.specs.Checks.{badMass}
 use Rattle.builder.specs.Build.{doubleSlots, modelOf, builtOf}
-use Rattle.builder.proofs.build.Passed.{sized, weighed}
+use Rattle.builder.proofs.build.Passed.{sized, passed}
 
 -- a number handed in is in its slot
 slot-kept : (s : List Float) (size t : ℕ) → t < size → t < length s → getD (doubleSlots s size) t nan ≡ getD s t nan
@@ -21,10 +21,10 @@ unfolding doubleSlots
 slot-kept s size t h g = getD-tab _ nan size t h ∙ simp (lt-ltb _ _ g)
 
 -- none is below zero
-pub no-mass-below-zero : (n : ℕ) (parents kinds : List ℕ) (origins axes links : List Float) → builtOf n parents kinds origins axes links .verdict ≡ Fine → (l : ℕ) → l ≤ n
-    → badMass (builtOf n parents kinds origins axes links .model .links) l ≡ false
+pub no-mass-below-zero : (n : ℕ) (parents kinds : List ℕ) (origins axes links rotors : List Float) → builtOf n parents kinds origins axes links rotors .verdict ≡ Fine → (l : ℕ) → l ≤ n
+    → badMass (builtOf n parents kinds origins axes links rotors .model .links) l ≡ false
 unfolding builtOf modelOf badMass linkOf
-no-mass-below-zero n parents kinds origins axes links e l h =
-    let s = sized n parents kinds origins axes links e .0 in
+no-mass-below-zero n parents kinds origins axes links rotors e l h =
+    let s = sized n parents kinds origins axes links rotors e .0 in
     let kept = slot-kept links 330 (l * 10) (omega (arith, s .few)) (omega (arith, s .ten)) in
-    simp e (ap (λ m. lt m 0·0) kept ∙ weighed n parents kinds origins axes links e l (omega arith))
+    simp e (ap (λ m. lt m 0·0) kept ∙ passed n parents kinds origins axes links rotors e .mass l (omega arith))

@@ -12,7 +12,7 @@ enum-told : tie.Need-enum-told
 enum-told c = search needs
 
 filled-requires : tie.Need-filled-requires
-filled-requires c κs = listed _ _ _ _ _ _ (sym (c .before .before .judged .ensures) ∙ c .enum-told .given .1)
+filled-requires c κs = listed _ _ _ _ _ _ _ (sym (c .before .before .judged .ensures) ∙ c .enum-told .given .1)
 
 returns : tie.Need-returns
 unfolding builtOf

@@ -6,12 +6,11 @@ use Rattle.builder.proofs.build.filled.Tie as tie
 
 byte-slots-requires : tie.Need-byte-slots-requires
 byte-slots-requires c κs =
-    let c5 = c .before .before .before .before .before in
-    let p = c5 .pre in
+    let p = c .before .before .before .before .before .before .pre in
     (omega (arith, p .one-parent), λ j h. omega (arith, p .good .tree .few, p .good .tree .below j h))
 
 byte-slots-requires-2 : tie.Need-byte-slots-requires-2
-byte-slots-requires-2 c κs = let p = c .before .before .before .before .before .before .pre in (omega (arith, p .one-kind), λ j h. omega (arith, p .good .known j h))
+byte-slots-requires-2 c κs = let p = c .before .before .before .before .before .before .before .pre in (omega (arith, p .one-kind), λ j h. omega (arith, p .good .known j h))
 
 slice-aggregate-double-slots : tie.Need-slice-aggregate-double-slots
 slice-aggregate-double-slots c = search needs
@@ -28,6 +27,9 @@ slice-aggregate-double-slots-2 c = search needs
 double-slots-requires-2 : tie.Need-double-slots-requires-2
 double-slots-requires-2 c κs = search needs
 
+rotor-slots-requires : tie.Need-rotor-slots-requires
+rotor-slots-requires c κs = search needs
+
 returns : tie.Need-returns
 unfolding modelOf
 returns c = cc
@@ -43,4 +45,5 @@ filled-spec =
     axis-slots-requires
     slice-aggregate-double-slots-2
     double-slots-requires-2
+    rotor-slots-requires
     returns)

@@ -1,3 +1,4 @@
+use native.Mathlib.Omega.{arith}
 use borrow.Author.Needs.{needs}
 use Rattle.builder.specs.Checks.{listsVerdict}
 use Rattle.builder.proofs.checks.judged_lists.Statement.{statement}
@@ -21,8 +22,8 @@ bad-axis-requires c κs = search needs
 named-requires-3 : tie.Need-named-requires-3
 named-requires-3 c κs = search needs
 
-bad-row-requires : tie.Need-bad-row-requires
-bad-row-requires c κs = search needs
+bad-numbers-requires : tie.Need-bad-numbers-requires
+bad-numbers-requires c κs = search needs
 
 named-requires-4 : tie.Need-named-requires-4
 named-requires-4 c κs = search needs
@@ -30,8 +31,8 @@ named-requires-4 c κs = search needs
 add-bad-row : tie.Need-add-bad-row
 add-bad-row c = search needs
 
-bad-row-requires-2 : tie.Need-bad-row-requires-2
-bad-row-requires-2 c κs = search needs
+bad-row-requires : tie.Need-bad-row-requires
+bad-row-requires c κs = search needs
 
 named-requires-5 : tie.Need-named-requires-5
 named-requires-5 c κs = search needs
@@ -46,10 +47,24 @@ add-bad-mass : tie.Need-add-bad-mass
 add-bad-mass c = search needs
 
 bad-mass-requires : tie.Need-bad-mass-requires
-bad-mass-requires c κs = search needs
+bad-mass-requires c κs =
+    let v5 = c .before .before .before .before .before .before in
+    let known = v5 .before .before .before .before .before .before in
+    let p = known .before .before .before .before .before .before .pre in
+    omega (arith, p .ten)
 
 named-requires-7 : tie.Need-named-requires-7
 named-requires-7 c κs = search needs
+
+bad-rotor-requires : tie.Need-bad-rotor-requires
+bad-rotor-requires c κs =
+    let v5 = c .before .before .before .before .before .before .before .before in
+    let known = v5 .before .before .before .before .before .before in
+    let p = known .before .before .before .before .before .before .pre in
+    (omega (arith, p .one-kind), omega (arith, p .one-rotor))
+
+named-requires-8 : tie.Need-named-requires-8
+named-requires-8 c κs = search needs
 
 first-requires : tie.Need-first-requires
 first-requires c κs = search needs
@@ -69,31 +84,38 @@ first-requires-5 c κs = search needs
 first-requires-6 : tie.Need-first-requires-6
 first-requires-6 c κs = search needs
 
+first-requires-7 : tie.Need-first-requires-7
+first-requires-7 c κs = search needs
+
 returns : tie.Need-returns
 unfolding listsVerdict
 returns c =
-    let v8 = c .before .before .before .before .before .before in
+    let v26 = c .before .before .before .before .before .before .before in
+    let v8 = v26 .before .before in
     let v7 = v8 .before .before in
     let link6 = v7 .before .before in
-    let origin6 = link6 .before .before in
-    let v5 = origin6 .before .before in
+    let joint6 = link6 .before .before in
+    let v5 = joint6 .before .before in
     let v4 = v5 .before .before in
     let v3 = v4 .before .before in
     rw (
-      c .first6 .ensures,
-      c .before .first5 .ensures,
-      c .before .before .first4 .ensures,
-      c .before .before .before .first3 .ensures,
-      c .before .before .before .before .first2 .ensures,
-      c .before .before .before .before .before .first .ensures,
+      c .first7 .ensures,
+      c .before .first6 .ensures,
+      c .before .before .first5 .ensures,
+      c .before .before .before .first4 .ensures,
+      c .before .before .before .before .first3 .ensures,
+      c .before .before .before .before .before .first2 .ensures,
+      c .before .before .before .before .before .before .first .ensures,
+      v26 .named8 .ensures,
+      v26 .before .bad-rotor .ensures,
       v8 .named7 .ensures,
       v8 .before .bad-mass .ensures,
       v7 .named6 .ensures,
       v7 .before .bad-rotation .ensures,
       link6 .named5 .ensures,
-      link6 .before .bad-row2 .ensures,
-      origin6 .named4 .ensures,
-      origin6 .before .bad-row .ensures,
+      link6 .before .bad-row .ensures,
+      joint6 .named4 .ensures,
+      joint6 .before .bad-numbers .ensures,
       v5 .named3 .ensures,
       v5 .before .bad-axis .ensures,
       v4 .named2 .ensures,
@@ -112,20 +134,23 @@ judged-lists-spec =
     named-requires-2
     bad-axis-requires
     named-requires-3
-    bad-row-requires
+    bad-numbers-requires
     named-requires-4
     add-bad-row
-    bad-row-requires-2
+    bad-row-requires
     named-requires-5
     bad-rotation-requires
     named-requires-6
     add-bad-mass
     bad-mass-requires
     named-requires-7
+    bad-rotor-requires
+    named-requires-8
     first-requires
     first-requires-2
     first-requires-3
     first-requires-4
     first-requires-5
     first-requires-6
+    first-requires-7
     returns)

@@ -27,9 +27,12 @@ mul-both-3 c = search needs
 both-requires-4 : tie.Need-both-requires-4
 both-requires-4 c κs = search needs
 
+both-requires-5 : tie.Need-both-requires-5
+both-requires-5 c κs = search needs
+
 returns : tie.Need-returns
 unfolding sizedBy
-returns c = rw (c .both4 .ensures, c .before .both3 .ensures, c .before .before .both2 .ensures, c .before .before .before .both .ensures)
+returns c = rw (c .both5 .ensures, c .before .both4 .ensures, c .before .before .both3 .ensures, c .before .before .before .both2 .ensures, c .before .before .before .before .both .ensures)
 
 pub sized-spec : {M : Type 1} → statement M
 sized-spec =
@@ -43,4 +46,5 @@ sized-spec =
     add-both
     mul-both-3
     both-requires-4
+    both-requires-5
     returns)
