@@ -28,6 +28,12 @@ slice-aggregate-copy-from-3 c = search needs
 copy-from-requires-3 : tie.Need-copy-from-requires-3
 copy-from-requires-3 c κs = search needs
 
+slice-aggregate-copy-from-4 : tie.Need-slice-aggregate-copy-from-4
+slice-aggregate-copy-from-4 c = search needs
+
+copy-from-requires-4 : tie.Need-copy-from-requires-4
+copy-from-requires-4 c κs = search needs
+
 full-requires : tie.Need-full-requires
 full-requires c κs = search needs
 
@@ -44,10 +50,11 @@ returns c =
     let b6 = b2 .before .before .before .before in
     let b10 = b6 .before .before .before .before in
     let b14 = b10 .before .before .before .before in
-    let b17 = b14 .before .before .before in
-    let b19 = b17 .before .before in
-    let b21 = b19 .before .before in
-    rw (c .both2 .ensures, b1 .both .ensures) (lent-by (b21 .args .k) (b21 .args .parents .now) (b21 .args .kinds .now) (b21 .args .origins .now) (b21 .args .axes .now) (b21 .args .links .now) (b21 .pre) (b2 .full .ensures) (b19 .narrow .ensures .0) (b17 .narrow2 .ensures .0) (b19 .narrow .ensures .1) (b17 .narrow2 .ensures .1) (b14 .copy-from .ensures) (b10 .copy-from2 .ensures) (b6 .copy-from3 .ensures))
+    let b18 = b14 .before .before .before .before in
+    let b21 = b18 .before .before .before in
+    let b23 = b21 .before .before in
+    let b25 = b23 .before .before in
+    rw (c .both2 .ensures, b1 .both .ensures) (lent-by (b25 .args .k) (b25 .args .parents .now) (b25 .args .kinds .now) (b25 .args .origins .now) (b25 .args .axes .now) (b25 .args .links .now) (b25 .args .rotors .now) (b25 .pre) (b2 .full .ensures) (b23 .narrow .ensures .0) (b21 .narrow2 .ensures .0) (b23 .narrow .ensures .1) (b21 .narrow2 .ensures .1) (b18 .copy-from .ensures) (b14 .copy-from2 .ensures) (b10 .copy-from3 .ensures) (b6 .copy-from4 .ensures))
 
 pub lent-model-spec : {M : Type 1} → statement M
 lent-model-spec =
@@ -61,6 +68,8 @@ lent-model-spec =
     copy-from-requires-2
     slice-aggregate-copy-from-3
     copy-from-requires-3
+    slice-aggregate-copy-from-4
+    copy-from-requires-4
     full-requires
     both-requires
     both-requires-2

@@ -148,31 +148,43 @@ returns-6 c =
       tt,
     )
 
+doubles-requires-4 : tie.Need-doubles-requires-4
+doubles-requires-4 c κs =
+    let b2 = c .before .before in
+    let b4 = b2 .before .before in
+    (rw (b2 .l .given .1) at (b4 .doubles3 .ensures .0 .1))
+
+enum-known-r : tie.Need-enum-known-r
+enum-known-r c = search needs
+
+enum-told-7 : tie.Need-enum-told-7
+enum-told-7 c = search needs
+
+returns-7 : tie.Need-returns-7
+unfolding handed
+returns-7 c =
+    let b2 = c .before .before in
+    let b5 = b2 .before .before .before in
+    let b7 = b5 .before .before in
+    let b10 = b7 .before .before .before in
+    let b12 = b10 .before .before in
+    let b15 = b12 .before .before .before in
+    let b17 = b15 .before .before in
+    let b20 = b17 .before .before .before in
+    let b22 = b20 .before .before in
+    let b25 = b22 .before .before .before in
+    let b27 = b25 .before .before in
+    let b30 = b27 .before .before .before in
+    let b32 = b30 .before .before in (
+      rw (← (rw (b30 .n .given .1) at (b32 .next-number .ensures .0)), ← (rw (b25 .p .given .1) at (b27 .numbers .ensures .0 .0)), ← (rw (b20 .k .given .1) at (b22 .numbers2 .ensures .0 .0)), ← (rw (b15 .o .given .1) at (b17 .doubles .ensures .0 .0)), ← (rw (b10 .a .given .1) at (b12 .doubles2 .ensures .0 .0)), ← (rw (b5 .l .given .1) at (b7 .doubles3 .ensures .0 .0)), ← (rw (c .enum-told7 .given .1) at (b2 .doubles4 .ensures .0 .0))),
+      tt,
+    )
+
 at-end-requires : tie.Need-at-end-requires
 at-end-requires c κs =
     let b1 = c .before in
     let b3 = b1 .before .before in
-    (rw (b1 .l .given .1) at (b3 .doubles3 .ensures .0 .1))
-
-returns-7 : tie.Need-returns-7
-unfolding handed end
-returns-7 c =
-    let b1 = c .before in
-    let b3 = b1 .before .before in
-    let b5 = b3 .before .before in
-    let b8 = b5 .before .before .before in
-    let b10 = b8 .before .before in
-    let b13 = b10 .before .before .before in
-    let b15 = b13 .before .before in
-    let b18 = b15 .before .before .before in
-    let b20 = b18 .before .before in
-    let b23 = b20 .before .before .before in
-    let b25 = b23 .before .before in
-    let b28 = b25 .before .before .before in
-    let b30 = b28 .before .before in (
-      rw (← (rw (b28 .n .given .1) at (b30 .next-number .ensures .0)), ← (rw (b23 .p .given .1) at (b25 .numbers .ensures .0 .0)), ← (rw (b18 .k .given .1) at (b20 .numbers2 .ensures .0 .0)), ← (rw (b13 .o .given .1) at (b15 .doubles .ensures .0 .0)), ← (rw (b8 .a .given .1) at (b10 .doubles2 .ensures .0 .0)), ← (rw (b3 .l .given .1) at (b5 .doubles3 .ensures .0 .0)), sym (b1 .at-end .ensures) ∙ not-true (b1 .at-end .result) (c .if1 .taken)),
-      tt,
-    )
+    (rw (b1 .r .given .1) at (b3 .doubles4 .ensures .0 .1))
 
 returns-8 : tie.Need-returns-8
 unfolding handed end
@@ -189,9 +201,33 @@ returns-8 c =
     let b23 = b20 .before .before .before in
     let b25 = b23 .before .before in
     let b28 = b25 .before .before .before in
-    let b30 = b28 .before .before in (
-      rw (← (rw (b28 .n .given .1) at (b30 .next-number .ensures .0)), ← (rw (b23 .p .given .1) at (b25 .numbers .ensures .0 .0)), ← (rw (b18 .k .given .1) at (b20 .numbers2 .ensures .0 .0)), ← (rw (b13 .o .given .1) at (b15 .doubles .ensures .0 .0)), ← (rw (b8 .a .given .1) at (b10 .doubles2 .ensures .0 .0)), ← (rw (b3 .l .given .1) at (b5 .doubles3 .ensures .0 .0)), sym (b1 .at-end .ensures) ∙ not-false (b1 .at-end .result) (c .if1 .left)),
-      record { parents = (rw (b23 .p .given .1) at (b25 .numbers .ensures .1)) .1; kinds = (rw (b18 .k .given .1) at (b20 .numbers2 .ensures .1)) .1; origins = (rw (b13 .o .given .1) at (b15 .doubles .ensures .1)) .1; axes = (rw (b8 .a .given .1) at (b10 .doubles2 .ensures .1)) .1; links = (rw (b3 .l .given .1) at (b5 .doubles3 .ensures .1)) .1 },
+    let b30 = b28 .before .before in
+    let b33 = b30 .before .before .before in
+    let b35 = b33 .before .before in (
+      rw (← (rw (b33 .n .given .1) at (b35 .next-number .ensures .0)), ← (rw (b28 .p .given .1) at (b30 .numbers .ensures .0 .0)), ← (rw (b23 .k .given .1) at (b25 .numbers2 .ensures .0 .0)), ← (rw (b18 .o .given .1) at (b20 .doubles .ensures .0 .0)), ← (rw (b13 .a .given .1) at (b15 .doubles2 .ensures .0 .0)), ← (rw (b8 .l .given .1) at (b10 .doubles3 .ensures .0 .0)), ← (rw (b3 .r .given .1) at (b5 .doubles4 .ensures .0 .0)), sym (b1 .at-end .ensures) ∙ not-true (b1 .at-end .result) (c .if1 .taken)),
+      tt,
+    )
+
+returns-9 : tie.Need-returns-9
+unfolding handed end
+returns-9 c =
+    let b1 = c .before in
+    let b3 = b1 .before .before in
+    let b5 = b3 .before .before in
+    let b8 = b5 .before .before .before in
+    let b10 = b8 .before .before in
+    let b13 = b10 .before .before .before in
+    let b15 = b13 .before .before in
+    let b18 = b15 .before .before .before in
+    let b20 = b18 .before .before in
+    let b23 = b20 .before .before .before in
+    let b25 = b23 .before .before in
+    let b28 = b25 .before .before .before in
+    let b30 = b28 .before .before in
+    let b33 = b30 .before .before .before in
+    let b35 = b33 .before .before in (
+      rw (← (rw (b33 .n .given .1) at (b35 .next-number .ensures .0)), ← (rw (b28 .p .given .1) at (b30 .numbers .ensures .0 .0)), ← (rw (b23 .k .given .1) at (b25 .numbers2 .ensures .0 .0)), ← (rw (b18 .o .given .1) at (b20 .doubles .ensures .0 .0)), ← (rw (b13 .a .given .1) at (b15 .doubles2 .ensures .0 .0)), ← (rw (b8 .l .given .1) at (b10 .doubles3 .ensures .0 .0)), ← (rw (b3 .r .given .1) at (b5 .doubles4 .ensures .0 .0)), sym (b1 .at-end .ensures) ∙ not-false (b1 .at-end .result) (c .if1 .left)),
+      record { parents = (rw (b28 .p .given .1) at (b30 .numbers .ensures .1)) .1; kinds = (rw (b23 .k .given .1) at (b25 .numbers2 .ensures .1)) .1; origins = (rw (b18 .o .given .1) at (b20 .doubles .ensures .1)) .1; axes = (rw (b13 .a .given .1) at (b15 .doubles2 .ensures .1)) .1; links = (rw (b8 .l .given .1) at (b10 .doubles3 .ensures .1)) .1; rotors = (rw (b3 .r .given .1) at (b5 .doubles4 .ensures .1)) .1 },
     )
 
 pub read-numbers-spec : {M : Type 1} → statement M
@@ -222,6 +258,10 @@ read-numbers-spec =
     enum-known-l
     enum-told-6
     returns-6
-    at-end-requires
+    doubles-requires-4
+    enum-known-r
+    enum-told-7
     returns-7
-    returns-8)
+    at-end-requires
+    returns-8
+    returns-9)

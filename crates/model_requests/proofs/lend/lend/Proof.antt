@@ -21,6 +21,9 @@ double-buffer-requires-2 c κs = search needs
 double-buffer-requires-3 : tie.Need-double-buffer-requires-3
 double-buffer-requires-3 c κs = search needs
 
+double-buffer-requires-4 : tie.Need-double-buffer-requires-4
+double-buffer-requires-4 c κs = search needs
+
 read-numbers-requires : tie.Need-read-numbers-requires
 read-numbers-requires c κs = search needs
 
@@ -46,15 +49,15 @@ returns c =
 
 lent-model-requires : tie.Need-lent-model-requires
 lent-model-requires c κs =
-    let b6 = c .before .before .before .before .before .before in
-    let b8 = b6 .before .before in
-    rw (b6 .h .given .1) at (b8 .read-numbers .ensures .1)
+    let b7 = c .before .before .before .before .before .before .before in
+    let b9 = b7 .before .before in
+    rw (b7 .h .given .1) at (b9 .read-numbers .ensures .1)
 
 slice-aggregate-put : tie.Need-slice-aggregate-put
 slice-aggregate-put c = search needs
 
 put-requires : tie.Need-put-requires
-put-requires c κs = omega (arith, c .before .before .before .before .before .before .before .before .before .before .before .before .before .before .before .before .before .before .before .before .before .before .before .before .before .before .pre .1)
+put-requires c κs = omega (arith, c .before .before .before .before .before .before .before .before .before .before .before .before .before .before .before .before .before .before .before .before .before .before .before .before .before .before .before .before .before .pre .1)
 
 same-length-2 : tie.Need-same-length-2
 same-length-2 c = search needs
@@ -65,15 +68,15 @@ returns-2 c =
     let b2 = c .before .before in
     let b6 = b2 .before .before .before .before in
     let b7 = b6 .before in
-    let b14 = b7 .before .before .before .before .before .before .before in
-    let b16 = b14 .before .before in (
+    let b15 = b7 .before .before .before .before .before .before .before .before in
+    let b17 = b15 .before .before in (
       omega (arith, b2 .put .ensures .0),
       omega (arith, b2 .put .ensures .0),
-      rw (← (rw (b14 .h .given .1) at (b16 .read-numbers .ensures .0)), sym (b7 .lent-model .ensures .fine) ∙ b6 .if1 .taken, b7 .lent-model .ensures .model (b6 .if1 .taken), b2 .put .ensures .1),
+      rw (← (rw (b15 .h .given .1) at (b17 .read-numbers .ensures .0)), sym (b7 .lent-model .ensures .fine) ∙ b6 .if1 .taken, b7 .lent-model .ensures .model (b6 .if1 .taken), b2 .put .ensures .1),
     )
 
 error-requires-2 : tie.Need-error-requires-2
-error-requires-2 c κs = omega (arith, c .before .before .before .before .before .before .before .before .before .before .before .before .before .before .before .before .before .before .before .before .before .before .before .before .pre .1)
+error-requires-2 c κs = omega (arith, c .before .before .before .before .before .before .before .before .before .before .before .before .before .before .before .before .before .before .before .before .before .before .before .before .before .before .before .pre .1)
 
 same-length-3 : tie.Need-same-length-3
 same-length-3 c = search needs
@@ -84,11 +87,11 @@ returns-3 c =
     let b2 = c .before .before in
     let b4 = b2 .before .before in
     let b5 = b4 .before in
-    let b12 = b5 .before .before .before .before .before .before .before in
-    let b14 = b12 .before .before in (
+    let b13 = b5 .before .before .before .before .before .before .before .before in
+    let b15 = b13 .before .before in (
       b2 .error2 .ensures .0,
       b2 .error2 .ensures .1,
-      rw (← (rw (b12 .h .given .1) at (b14 .read-numbers .ensures .0)), sym (b5 .lent-model .ensures .fine) ∙ b4 .if1 .left, b2 .error2 .ensures .2),
+      rw (← (rw (b13 .h .given .1) at (b15 .read-numbers .ensures .0)), sym (b5 .lent-model .ensures .fine) ∙ b4 .if1 .left, b2 .error2 .ensures .2),
     )
 
 pub lend-spec : {M : Type 1} → statement M
@@ -100,6 +103,7 @@ lend-spec =
     double-buffer-requires
     double-buffer-requires-2
     double-buffer-requires-3
+    double-buffer-requires-4
     read-numbers-requires
     enum-known-h
     enum-told

@@ -22,6 +22,9 @@ double-buffer-requires-2 c κs = search needs
 double-buffer-requires-3 : tie.Need-double-buffer-requires-3
 double-buffer-requires-3 c κs = search needs
 
+double-buffer-requires-4 : tie.Need-double-buffer-requires-4
+double-buffer-requires-4 c κs = search needs
+
 read-numbers-requires : tie.Need-read-numbers-requires
 read-numbers-requires c κs = search needs
 
@@ -88,11 +91,23 @@ slice-aggregate-build-5 c =
     let b8 = b6 .before .before in
     sym (length-take-le _ _ ((rw (b6 .h .given .1) at (b8 .read-numbers .ensures .1)) .links))
 
+array-share-prefix-rotors : tie.Need-array-share-prefix-rotors
+array-share-prefix-rotors c =
+    let b6 = c .before .before .before .before .before .before in
+    let b8 = b6 .before .before in
+    (rw (b6 .h .given .1) at (b8 .read-numbers .ensures .1)) .rotors
+
+slice-aggregate-build-6 : tie.Need-slice-aggregate-build-6
+slice-aggregate-build-6 c =
+    let b7 = c .before .before .before .before .before .before .before in
+    let b9 = b7 .before .before in
+    sym (length-take-le _ _ ((rw (b7 .h .given .1) at (b9 .read-numbers .ensures .1)) .rotors))
+
 build-requires : tie.Need-build-requires
 build-requires c κs = search needs
 
 put-built-requires : tie.Need-put-built-requires
-put-built-requires c κs = omega (arith, c .before .before .before .before .before .before .before .before .before .before .before .before .before .before .before .before .before .before .before .before .before .before .before .before .pre .1)
+put-built-requires c κs = omega (arith, c .before .before .before .before .before .before .before .before .before .before .before .before .before .before .before .before .before .before .before .before .before .before .before .before .before .before .before .pre .1)
 
 enum-told : tie.Need-enum-told
 enum-told c = search needs
@@ -108,9 +123,9 @@ unfolding modelRequest
 returns c =
     let b2 = c .before .before in
     let b5 = b2 .before .before .before in
-    let b12 = b5 .before .before .before .before .before .before .before in
-    let b14 = b12 .before .before in
-    (b2 .put-built .ensures .0, b2 .put-built .ensures .1, rw (← (rw (b12 .h .given .1) at (b14 .read-numbers .ensures .0)), ← b5 .build .ensures, b2 .put-built .ensures .2))
+    let b13 = b5 .before .before .before .before .before .before .before .before in
+    let b15 = b13 .before .before in
+    (b2 .put-built .ensures .0, b2 .put-built .ensures .1, rw (← (rw (b13 .h .given .1) at (b15 .read-numbers .ensures .0)), ← b5 .build .ensures, b2 .put-built .ensures .2))
 
 same-length-2 : tie.Need-same-length-2
 same-length-2 c = search needs
@@ -132,6 +147,7 @@ model-spec =
     double-buffer-requires
     double-buffer-requires-2
     double-buffer-requires-3
+    double-buffer-requires-4
     read-numbers-requires
     enum-known-h
     array-share-prefix-parents
@@ -144,6 +160,8 @@ model-spec =
     slice-aggregate-build-4
     array-share-prefix-links
     slice-aggregate-build-5
+    array-share-prefix-rotors
+    slice-aggregate-build-6
     build-requires
     put-built-requires
     enum-told
