@@ -38,6 +38,7 @@ typedef struct {
     Frame origins[ROOM];
     Vec3 axes[ROOM];
     Body links[ROOM + 1];
+    double rotors[ROOM];
 } Model;
 
 typedef struct { uint64_t length; double items[LONGEST_LIST]; } Doubles;
@@ -308,6 +309,10 @@ static Plan plan_of(const Model *m, bool floating) {
 static inline double value_of(const Model *m, const Plan *p, const double *q, uint64_t j) {
     return m->kinds[j] == FIXED ? 0.0 : q[p->numbers[j]];
 }
+/* Nothing is added where the rotor is zero, of either sign. */
+static inline double with_rotor(const Model *m, uint64_t j, double carried) {
+    return m->rotors[j] != 0.0 ? carried + m->rotors[j] : carried;
+}
 static Frame frame_of(const Model *m, uint64_t j, double q) {
     Frame o = m->origins[j];
     if (m->kinds[j] == FIXED) return o;
@@ -442,7 +447,11 @@ static Answer mass_matrix(const Model *m, const Plan *p, Call *c) {
         else if (c->floating) add_composite(root, &w[j]);
     }
     for (uint64_t j = 0; j < m->n; j++)
-        if (m->kinds[j] != FIXED) column(m, p, c, w, matrix, j);
+        if (m->kinds[j] != FIXED) {
+            column(m, p, c, w, matrix, j);
+            double *diagonal = matrix + (p->lead + p->numbers[j]) * (p->g + 1);
+            *diagonal = with_rotor(m, j, *diagonal);
+        }
     if (c->floating) base_columns(c, root, p->g, matrix);
     if (!all_finite(matrix, entries)) return close_call(c, (Answer){37, NOTHING, visits});
     memcpy(c->out, matrix, entries * sizeof(double));
@@ -497,7 +506,7 @@ static int second_pass(const Model *m, const Plan *p, const Call *c, ForwardJoin
     ForwardJoint *joint = &w[j];
     if (active) {
         Six s = motion_of(m, j), u = apply_joint(&joint->inertia, m->kinds[j], m->axes[j]);
-        double d = dot6(s, u);
+        double d = with_rotor(m, j, dot6(s, u));
         if (!isfinite(d)) return 30;
         if (d <= 0.0) return 31;
         joint->joint_bias = c->forces.items[p->lead + p->numbers[j]] - dot6(s, joint->bias_force);
@@ -667,6 +676,11 @@ static bool read_model(Words *w, Model *m) {
         b->moment = vector(w);
         double xx = real(w), xy = real(w), xz = real(w), yy = real(w), yz = real(w), zz = real(w);
         b->inertia = (Mat3){{{xx, xy, xz}, {xy, yy, yz}, {xz, yz, zz}}};
+    }
+    w->bad |= length(w, ROOM) != fresh.n;
+    for (uint64_t j = 0; j < fresh.n; j++) {
+        double rotor = real(w);
+        fresh.rotors[j] = fresh.kinds[j] == FIXED ? 0.0 : rotor;
     }
     if (w->bad || *w->rest) return false;
     *m = fresh;
