@@ -1,4 +1,4 @@
--- The twelve cases, the masses, the loads and the turns, computed. Assumes nothing.
+-- The twelve cases, the masses, the loads, the turns and the rotors, computed. Assumes nothing.
 use mathlib.Core.List.{_++_}
 use mathlib.Core.Path.{refl, ap₂}
 use Prim.{Unit}
@@ -49,7 +49,7 @@ use Rattle.composites.specs.Plan as sizes
 use Rattle.matrix_columns.specs.Walk as walk
 use Rattle.forward_dynamics.specs.Checks as inputs
 use Rattle.forward_dynamics.specs.ForwardDynamics as dynamics
-use Rattle.claims.specs.Cases.{twelve, masses, loads as added, turns, Hold}
+use Rattle.claims.specs.Cases.{twelve, masses, loads as added, turns, rotors, Hold}
 
 -- ---- what computes: to unfold one of these is to unfold all that its line names
 
@@ -62,7 +62,7 @@ unfolding frame.productOf frame.turnOf frame.slideOf operators.wrenchToParent op
 open-spatial = Unit {0}
 
 open-arm : Type 0
-unfolding refusals.scan refusals.lowest refusals.found refusals.namedOf refusals.plainOf refusals.orElse build.byteSlots build.doubleSlots build.axisSlot build.axisSlots build.modelOf build.builtOf builder.sizedBy builder.axisOf builder.badAxis builder.badRow builder.badRotation builder.badMass builder.listsVerdict builder.verdictOf joint.motionBy axis.normedAxis axis.scaledAxis axis.unitAxis axis.keptAxis joint.notUnit joint.turnedOf joint.frameOf model.emptyModel model.motionOf model.jointOf model.linkOf model.wildJoint model.wildOf topology.activesOf topology.valueOf topology.holdsOf topology.activeJoint
+unfolding refusals.scan refusals.lowest refusals.found refusals.namedOf refusals.plainOf refusals.orElse build.byteSlots build.doubleSlots build.axisSlot build.axisSlots build.rotorSlot build.rotorSlots build.modelOf build.builtOf builder.sizedBy builder.axisOf builder.badAxis builder.badRow builder.badNumbers builder.badRotation builder.badMass builder.badRotor builder.listsVerdict builder.verdictOf joint.motionBy axis.normedAxis axis.scaledAxis axis.unitAxis axis.keptAxis joint.notUnit joint.turnedOf joint.frameOf joint.withRotor model.emptyModel model.motionOf model.jointOf model.linkOf model.wildJoint model.wildOf topology.activesOf topology.valueOf topology.holdsOf topology.activeJoint
 open-arm = Unit {0}
 
 open-calls : Type 0
@@ -70,7 +70,7 @@ unfolding checks.badValue checks.valuesVerdict checks.farTurn checks.turnsVerdic
 open-calls = Unit {0}
 
 open-matrix : Type 0
-unfolding composite.compositeAt composite.putComposite composite.shiftedOf composite.toParentOf composite.joinedOf composite.forceOf columns.begunOf columns.frameVisit columns.addInto columns.compositeVisit walk.baseRows walk.columnVisit walk.columnFound columns.rootColumns columns.tested columns.rootVisit columns.jointVisit columns.visitOf limits.restVerdict limits.inputsVerdict matrix.massMatrix plan.planBy sizes.putPair walk.entryOf walk.putEntry walk.walkStep walk.climb walk.walkOf
+unfolding composite.compositeAt composite.putComposite composite.shiftedOf composite.toParentOf composite.joinedOf composite.forceOf columns.begunOf columns.frameVisit columns.addInto columns.compositeVisit walk.baseRows walk.columnVisit walk.columnFound columns.rootColumns columns.tested columns.rootVisit columns.jointVisit columns.visitOf limits.restVerdict limits.inputsVerdict matrix.massMatrix plan.planBy sizes.putPair sizes.addRotor walk.entryOf walk.putEntry walk.walkStep walk.climb walk.walkOf
 open-matrix = Unit {0}
 
 open-articulated : Type 0
@@ -106,3 +106,7 @@ load-cases = refl
 pub turn-cases : Hold turns
 unfolding turns open-numbers open-spatial open-arm open-calls open-matrix
 turn-cases = refl
+
+pub rotor-cases : Hold rotors
+unfolding rotors open-numbers open-spatial open-arm open-calls open-matrix open-articulated open-dynamics
+rotor-cases = refl

@@ -2,3 +2,4 @@ pub mod OneResult
 pub mod Divided
 pub mod Settled
 pub mod Cases
+pub mod Rotorless

@@ -37,11 +37,11 @@ column-one κs a r s e f = one-result
 abbrev and-workspace : Result → Answer × List Float
 and-workspace x = (x .0, x .1)
 
-pub start-one : OneResult {S = Answer × List Float} start.Post (λ κs r e. (r, now (e .1 .1 .1 .1 .1 .1 .1 .1 .1 .1 .1 .1 .0)))
+pub start-one : OneResult {S = Answer × List Float} start.Post (λ κs r e. (r, now (e .1 .1 .1 .1 .1 .1 .1 .1 .1 .1 .1 .1 .1 .0)))
 start-one κs a r s e f d h = ap and-workspace (one-result d h)
 
-pub portion-one : OneResult {S = Result} portion.Post (λ κs r e. (r, now (e .1 .1 .1 .1 .1 .1 .1 .1 .1 .1 .1 .1 .1 .0), now (e .1 .1 .1 .1 .1 .1 .1 .1 .1 .1 .1 .1 .1 .1 .0)))
+pub portion-one : OneResult {S = Result} portion.Post (λ κs r e. (r, now (e .1 .1 .1 .1 .1 .1 .1 .1 .1 .1 .1 .1 .1 .1 .0), now (e .1 .1 .1 .1 .1 .1 .1 .1 .1 .1 .1 .1 .1 .1 .1 .0)))
 portion-one κs a r s e f = one-result
 
-pub whole-one : OneResult {S = Result} whole.Post (λ κs r e. (r, now (e .1 .1 .1 .1 .1 .1 .1 .1 .1 .1 .1 .1 .0), now (e .1 .1 .1 .1 .1 .1 .1 .1 .1 .1 .1 .1 .1 .0)))
+pub whole-one : OneResult {S = Result} whole.Post (λ κs r e. (r, now (e .1 .1 .1 .1 .1 .1 .1 .1 .1 .1 .1 .1 .1 .0), now (e .1 .1 .1 .1 .1 .1 .1 .1 .1 .1 .1 .1 .1 .1 .0)))
 whole-one κs a r s e f = one-result

@@ -1,4 +1,4 @@
--- The twelve small cases of document 01, and of document 02 the masses of item 9, the loads of item 3 and the turns of item 6: what is asked, by the definitions of the calls, and what is to be told. Definitions only.
+-- The twelve small cases of document 01, and of document 02 the masses of item 9, the loads of item 3, the turns of item 6 and the rotors of item 11: what is asked, by the definitions of the calls, and what is to be told. Definitions only.
 -- "Unless said: identity origins and root rotation, fixed root, other numbers zero."
 use mathlib.Core.List.{List, [], _∷_, _++_, map}
 use mathlib.Core.Path.{_≡_}
@@ -23,8 +23,8 @@ use Rattle.spatial.specs.Twist.{zerosOf}
 use Rattle.spatial.specs.Wrench.{vectorOf}
 use Rattle.slots.specs.Slots.{vec3At}
 use Rattle.builder.specs.Build.{builtOf}
-use Rattle.arm.specs.Joint.{components}
-use Rattle.arm.specs.Model.{linkOf}
+use Rattle.arm.specs.Joint.{components, withRotor}
+use Rattle.arm.specs.Model.{rotorOf, linkOf}
 use Rattle.builder.specs.declared.build.Built.{Built}
 use Rattle.calls.specs.Position.{Result, wholeOf}
 use Rattle.calls.specs.declared.position.Outcome.{Outcome}
@@ -100,7 +100,7 @@ origin = 1·0 ∷ zeros 6
 
 -- one joint, of a kind: 0 turns, 1 slides
 abbrev oneJoint : ℕ → List Float → List Float → Built
-oneJoint kind a l = builtOf 1 (0 ∷ []) (kind ∷ []) origin a (zeros 10 ++ l)
+oneJoint kind a l = builtOf 1 (0 ∷ []) (kind ∷ []) origin a (zeros 10 ++ l) (zeros 1)
 
 -- slides on z: one that carries a mass, and two, the second on a link
 abbrev z : List Float
@@ -109,8 +109,12 @@ z = axis 0·0 0·0 1·0
 abbrev oneSlide : Float → Built
 oneSlide mass = oneJoint 1 z (weight mass)
 
+-- two with rotors
+abbrev geared : ℕ → Float → Float → Float → Float → Built
+geared parent a b c d = builtOf 2 (0 ∷ parent ∷ []) (1 ∷ 1 ∷ []) (origin ++ origin) (z ++ z) (zeros 10 ++ weight a ++ weight b) (c ∷ d ∷ [])
+
 abbrev twoSlides : ℕ → Float → Float → Built
-twoSlides parent a b = builtOf 2 (0 ∷ parent ∷ []) (1 ∷ 1 ∷ []) (origin ++ origin) (z ++ z) (zeros 10 ++ weight a ++ weight b)
+twoSlides parent a b = geared parent a b 0·0 0·0
 
 -- ---- the calls
 
@@ -121,9 +125,16 @@ keptAxis a = let b = oneJoint 1 a (weight 0·0) in ofVerdict (b .verdict) (compo
 -- the masses of the root's link and of link 1, as they are kept
 abbrev keptMasses : Float → Float → Told
 keptMasses a b =
-    let built = builtOf 1 (0 ∷ []) (1 ∷ []) origin z (weight a ++ weight b) in
+    let built = builtOf 1 (0 ∷ []) (1 ∷ []) origin z (weight a ++ weight b) (zeros 1) in
     let links = built .model .links in
     ofVerdict (built .verdict) (linkOf links 0 .mass ∷ linkOf links 1 .mass ∷ [])
+
+-- the rotors of two joints, the second of a kind, as they are kept
+abbrev keptRotors : ℕ → Float → Float → Told
+keptRotors kind a b =
+    let built = builtOf 2 (0 ∷ 1 ∷ []) (1 ∷ kind ∷ []) (origin ++ origin) (z ++ z) (zeros 30) (a ∷ b ∷ []) in
+    let rotors = built .model .rotors in
+    ofVerdict (built .verdict) (rotorOf rotors 0 ∷ rotorOf rotors 1 ∷ [])
 
 -- lent to be written: ones, so that what is told was written
 abbrev ones : ℕ → List Float
@@ -193,7 +204,7 @@ twelve =
     -- 11: the output as it was
     ∷ (fixedMatrix (twoSlides 1 huge huge), refused 37 Nothing (replicate 4 0x3ff0_0000_0000_0000))
     -- 12: all six +0.0
-    ∷ (forward (Floating upright zerosOf) (builtOf 0 [] [] [] [] (link 4·0 1·0 1·0 1·0)) (zeros 5 ++ 4·0 ⊗ gravity ∷ []), given (replicate 6 0))
+    ∷ (forward (Floating upright zerosOf) (builtOf 0 [] [] [] [] (link 4·0 1·0 1·0 1·0) []) (zeros 5 ++ 4·0 ⊗ gravity ∷ []), given (replicate 6 0))
     ∷ []
 
 -- document 02, item 9: -3 on a link, and on the root's link too; -0.0 and +0.0 stay allowed
@@ -236,6 +247,29 @@ turns =
     ∷ (turnedBy limit, given (0x4014_0000_0000_0000 ∷ []))
     ∷ (turnedBy -limit, given (0x4014_0000_0000_0000 ∷ []))
     ∷ (turnedBy beyond, refused 13 (At 0) (0x3ff0_0000_0000_0000 ∷ []))
+    ∷ []
+
+-- document 02, item 11: a rotor is added to D and to its joint's diagonal entry alone
+unfoldable pub rotors : List (Told × Told)
+rotors =
+    let -0·0 = bits 0x8000_0000_0000_0000 in
+    let -3·0 = bits 0xc008_0000_0000_0000 in
+    let nan = bits 0x7ff8_0000_0000_0000 in
+    -- a zero of either sign adds nothing, and so leaves -0.0
+    (given (patterns (withRotor 0·0 -0·0 ∷ withRotor -0·0 -0·0 ∷ withRotor 0·0 2·0 ∷ withRotor 1·0 2·0 ∷ [])), given (0x8000_0000_0000_0000 ∷ 0x8000_0000_0000_0000 ∷ 0x4000_0000_0000_0000 ∷ 0x4008_0000_0000_0000 ∷ []))
+    -- case 6 with rotors of 1 and 2: 6, 3, 3, 5
+    ∷ (fixedMatrix (geared 1 2·0 3·0 1·0 2·0), given (0x4018_0000_0000_0000 ∷ 0x4008_0000_0000_0000 ∷ 0x4008_0000_0000_0000 ∷ 0x4014_0000_0000_0000 ∷ []))
+    -- case 9 with a rotor of 2, beside one without: -(2 · 9.80665) / 4
+    ∷ (forward (Fixed upright) (geared 0 2·0 1·0 2·0 0·0) (0·0 ∷ 0·0 ∷ []), given (0xc013_9d01_3a92_a305 ∷ 0xc023_9d01_3a92_a305 ∷ []))
+    -- case 10 with one of 2, which is driven by 4: the motor alone is accelerated
+    ∷ (forward (Fixed upright) (geared 0 0·0 1·0 2·0 -0·0) (4·0 ∷ 0·0 ∷ []), given (0x4000_0000_0000_0000 ∷ 0xc023_9d01_3a92_a305 ∷ []))
+    -- what is kept: -0.0 as it stands, a fixed joint's never looked at
+    ∷ (keptRotors 1 -0·0 2·0, given (0x8000_0000_0000_0000 ∷ 0x4000_0000_0000_0000 ∷ []))
+    ∷ (keptRotors 2 3·0 nan, given (0x4008_0000_0000_0000 ∷ 0 ∷ []))
+    -- what is refused: -3 on one joint and on both, and NaN before it
+    ∷ (keptRotors 0 1·0 -3·0, refused 26 (At 1) (0 ∷ 0 ∷ []))
+    ∷ (keptRotors 0 -3·0 -3·0, refused 26 (At 0) (0 ∷ 0 ∷ []))
+    ∷ (keptRotors 0 -3·0 nan, refused 6 (At 1) (0 ∷ 0 ∷ []))
     ∷ []
 
 -- each is told as expected

@@ -1,3 +1,4 @@
 pub mod OneResult
 pub mod Cases
 pub mod Settled
+pub mod Rotorless
