@@ -3,3 +3,4 @@ pub mod Divided
 pub mod Settled
 pub mod Cases
 pub mod Rotorless
+pub mod Rotors

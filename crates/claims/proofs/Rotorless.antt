@@ -1,5 +1,5 @@
--- WHERE NO ACTIVE JOINT HAS A ROTOR, zeros of either sign aside, both calculations are document 01's. Assumes nothing.
-use mathlib.Core.Bool.{Bool, true, false, cond, false≢true}
+-- WHERE NO ACTIVE JOINT HAS A ROTOR, zeros of either sign aside, both calculations are those without rotors. Assumes nothing.
+use mathlib.Core.Bool.{true, false, false≢true}
 use mathlib.Core.List.{List}
 use mathlib.Core.Path.{_≡_, refl, sym, ap, _∙_, fun-ext}
 use Prim.Native.Nat.{ℕ, _+_, _-_, _<_}
@@ -27,6 +27,7 @@ use Rattle.calls.specs.Position.{Work}
 use Rattle.calls.specs.declared.plan.Plan.{Plan}
 use Rattle.calls.specs.declared.position.Outcome.{Outcome}
 use Rattle.calls.specs.declared.position.Outcome.the-variants.{Open}
+use Rattle.calls.proofs.Kept.{chosen}
 use Rattle.articulated.specs.Root.{rootVelocity}
 use Rattle.articulated.specs.Second.{termOf}
 use Rattle.forward_slots.specs.Eliminate.{fixedBy, newTerm, eliminated}
@@ -43,11 +44,6 @@ use Rattle.dynamics.specs.declared.calculation.Calculation.{Calculation}
 use Rattle.dynamics.specs.declared.calculation.Calculation.the-variants.{Matrix, Forward}
 use Rattle.claims.specs.Rotorless.{NoRotor, bareTerm, bareEliminated, bareSecond, barePass, bareForwardVisit, bareColumn, bareJoint, bareMatrixVisit, bareMatrix, bareForward, bareOf}
 
--- a choice whose ways are the same
-ways : {A : Type 0} (b : Bool) {x x′ y y′ : A} → (b ≡ true → x ≡ x′) → (b ≡ false → y ≡ y′) → cond b x y ≡ cond b x′ y′
-ways true f g = f refl
-ways false f g = g refl
-
 none : (rotor x : Float) → ne rotor 0·0 ≡ false → withRotor rotor x ≡ x
 unfolding withRotor
 none rotor x e = simp e
@@ -61,7 +57,7 @@ same-term motion rotor inertia force own e = rw (none rotor _ e)
 same-eliminated : (p : Plan) (motion : Motion) (rotor : Float) (number : ℕ) (forces : List Float) (j : ℕ) (ws : List Float) → (fixedBy motion ≡ false → ne rotor 0·0 ≡ false)
     → eliminated p motion rotor number forces j ws ≡ bareEliminated p motion number forces j ws
 unfolding eliminated newTerm bareEliminated
-same-eliminated p motion rotor number forces j ws h = ways (fixedBy motion) (λ e. refl) (λ e. rw (same-term motion rotor _ _ _ (h e)))
+same-eliminated p motion rotor number forces j ws h = chosen _≡_ (fixedBy motion) (λ e. refl) (λ e. rw (same-term motion rotor _ _ _ (h e)))
 
 -- a joint that moves is active
 moves : (kinds : List ℕ) (axes : List Float) (j : ℕ) → fixedBy (motionOf kinds axes j) ≡ false → kindOf kinds j ≡ 2 → ⊥
@@ -78,8 +74,8 @@ module _ (m : Model) (h : NoRotor m) (p : Plan) (n : p .n ≡ m .n) where
       → forward.passVisit p rotation velocity m q qd forces k ws ≡ barePass p rotation velocity m q qd forces k ws
   unfolding forward.passVisit barePass
   same-pass rotation velocity q qd forces k ws =
-      ways (ltb k (p .n)) (λ e. refl)
-      (λ e. ways (ltb k (p .n + p .n)) (λ g. same-second forces (p .n + p .n - 1 - k) ws (omega (arith, ltb-false k (p .n) e, ltb-true k (p .n + p .n) g))) (λ g. refl))
+      chosen _≡_ (ltb k (p .n)) (λ e. refl)
+      (λ e. chosen _≡_ (ltb k (p .n + p .n)) (λ g. same-second forces (p .n + p .n - 1 - k) ws (omega (arith, ltb-false k (p .n) e, ltb-true k (p .n + p .n) g))) (λ g. refl))
 
   same-forward : (rotation : Quaternion) (velocity : Twist) (i : Inputs) (k : ℕ) (ws : List Float)
       → forward.visitOf p rotation velocity m (i .q) (i .qd) (i .forces) (i .loaded) (i .loads) k ws ≡ bareForwardVisit p rotation velocity m i k ws
@@ -106,8 +102,8 @@ module _ (m : Model) (h : NoRotor m) (p : Plan) (n : p .n ≡ m .n) where
   same-matrix : (r : Quaternion) (q : List Float) (at : ℕ) (ws : List Float) → visitOf p r m q at ws ≡ bareMatrixVisit p r m q at ws
   unfolding visitOf jointVisit bareMatrixVisit bareJoint
   same-matrix r q at ws =
-      ways (ltb at (p .n + p .n + (p .side - p .lead)))
-      (λ e. ap (λ s. (Open, s)) (ways (ltb at (p .n)) (λ f. refl) (λ f. ways (ltb at (p .n + p .n)) (λ g. refl) (λ g. same-column r (at - (p .n + p .n)) _))))
+      chosen _≡_ (ltb at (p .n + p .n + (p .side - p .lead)))
+      (λ e. ap (λ s. (Open, s)) (chosen _≡_ (ltb at (p .n)) (λ f. refl) (λ f. chosen _≡_ (ltb at (p .n + p .n)) (λ g. refl) (λ g. same-column r (at - (p .n + p .n)) _))))
       (λ e. refl)
 
 -- a calculation with these visits

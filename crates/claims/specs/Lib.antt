@@ -2,3 +2,4 @@ pub mod OneResult
 pub mod Cases
 pub mod Settled
 pub mod Rotorless
+pub mod Rotors

@@ -1,5 +1,5 @@
--- Both calculations as document 01 has them, without rotors; no code stands behind them. They differ from the desk's own in D and in the column of a joint
--- alone (document 02, item 11). Definitions only.
+-- Both calculations without rotors, as they were before item 11 of document 02; no code stands behind them. They differ from the desk's own in D and in the
+-- column of a joint alone. Definitions only.
 use mathlib.Core.Bool.{true, false, cond}
 use mathlib.Core.List.{List}
 use mathlib.Core.Path.{_≡_}

@@ -1,10 +1,11 @@
 -- The mass matrix is sound: every visit keeps the workspace's length, and the root's is the one that ends. Assumes nothing.
-use mathlib.Core.Bool.{Bool, true, false, cond}
+use mathlib.Core.Bool.{Bool, true, false, not}
 use mathlib.Core.List.{List}
-use mathlib.Core.Path.{_≡_, refl}
-use Prim.Native.Nat.{ℕ, _+_, _-_, _*_, _<_}
+use mathlib.Core.Path.{_≡_, refl, ap}
+use Prim.Native.Nat.{ℕ, _+_, _-_, _*_, _≤_, _<_}
 use native.Mathlib.Omega.{arith}
-use borrow.Author.Tests.{lt-ltb, le-ltb}
+use borrow.Author.Tests.{lt-ltb, le-ltb, ltb-true, ltb-false}
+use lib.Dec.{ltb}
 use lib.ListN.{take, drop}
 use lib.Ieee.{Float}
 use Rattle.numbers.specs.Double.{allFinite}
@@ -19,6 +20,7 @@ use Rattle.calls.specs.declared.position.Outcome.{Outcome}
 use Rattle.calls.specs.declared.position.Outcome.the-variants.{Open, Accepted, Refused}
 use Rattle.calls.specs.declared.position.Position.{Position}
 use Rattle.calls.specs.declared.position.Progress.{Progress}
+use Rattle.calls.proofs.Kept.{either-way}
 use Rattle.calls.proofs.Steps.{still-within}
 use Rattle.matrix_visits.specs.Kernel.{tested, rootVisit, visitOf}
 use Rattle.composites.specs.Plan.{matrixPlace}
@@ -28,11 +30,7 @@ use Rattle.mass_matrix.specs.declared.mass_matrix.Mode.{Mode}
 
 tested-ends : (p : Plan) (ws : List Float) → ended (tested p ws) ≡ true
 unfolding tested ended
-tested-ends p ws = go (allFinite (take (p .side * p .side) (drop (matrixPlace (p .n)) ws)))
-  where
-    go : (b : Bool) → ended (cond b Accepted (Refused 37 Nothing)) ≡ true
-    go true = refl
-    go false = refl
+tested-ends p ws = either-way ended (allFinite (take (p .side * p .side) (drop (matrixPlace (p .n)) ws))) refl refl
 
 module _ (p : Plan) (r : Quaternion) (m : Model) (q : List Float) (at : ℕ) (ws : List Float) where
   -- a visit below the root's leaves the position open
@@ -41,9 +39,18 @@ module _ (p : Plan) (r : Quaternion) (m : Model) (q : List Float) (at : ℕ) (ws
   below-root h = rw (lt-ltb at (p .n + p .n + (p .side - p .lead)) h)
 
   -- and the root's does not
-  last-ends : at ≡ p .n + p .n + (p .side - p .lead) → ended (visitOf p r m q at ws .0) ≡ true
+  last-ends : p .n + p .n + (p .side - p .lead) ≤ at → ended (visitOf p r m q at ws .0) ≡ true
   unfolding visitOf rootVisit
-  last-ends e = rw (le-ltb at (p .n + p .n + (p .side - p .lead)) (omega arith)) (tested-ends p _)
+  last-ends h = rw (le-ltb at (p .n + p .n + (p .side - p .lead)) h) (tested-ends p _)
+
+  -- whatever the model and the inputs
+  pub visit-ends : ended (visitOf p r m q at ws .0) ≡ not (ltb at (p .n + p .n + (p .side - p .lead)))
+  unfolding ended
+  visit-ends = go (ltb at (p .n + p .n + (p .side - p .lead))) refl
+    where
+      go : (b : Bool) → ltb at (p .n + p .n + (p .side - p .lead)) ≡ b → ended (visitOf p r m q at ws .0) ≡ not b
+      go true e = ap ended (below-root (ltb-true at (p .n + p .n + (p .side - p .lead)) e))
+      go false e = last-ends (ltb-false at (p .n + p .n + (p .side - p .lead)) e)
 
 -- after a visit that leaves it open, a position has a visit left
 pub within-after : (p : Plan) (r : Quaternion) (m : Model) (q : List Float) (s : Position) (ws : List Float) {o : Outcome} {ws′ : List Float} {t : Progress}
