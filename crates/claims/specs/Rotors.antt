@@ -31,6 +31,6 @@ diagonalOf mode m j =
     let row = p .lead + activesOf (m .kinds) j in
     row * p .side + row
 
--- joint j is active, and has the rotor in both
+-- where joint j is one of the model's active joints, its rotor is the same
 abbrev pub RotorAt : Model → List Float → ℕ → Type 0
 RotorAt m rotors j = j < m .n → (kindOf (m .kinds) j ≡ 2 → ⊥) → rotorOf (m .rotors) j ≡ rotorOf rotors j
