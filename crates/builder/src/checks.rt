@@ -89,8 +89,7 @@ fn wild_row(size: usize, s: &[f64], i: usize) -> bool
     requires { ⌜ (i + 1) * size ≤ length (now s) ⌝ }
     ensures { λ r. ⌜ r ≡ badRow size (now (s .entry)) i ⌝ }
 {
-    let at = i * size;
-    !double::all_finite(&s[at..at + size])
+    !slots::finite_part(s, i * size, size)
 }
 
 // The lowest of n such rows.

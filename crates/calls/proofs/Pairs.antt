@@ -11,10 +11,9 @@ use Rattle.refusals.specs.declared.Verdict.{Verdict}
 use Rattle.refusals.specs.declared.Verdict.the-variants.{Fine}
 use Rattle.refusals.specs.declared.Verdict.the-variants as verdict
 use Rattle.slots.specs.Slots.{cleared, partOf}
-use Rattle.calls.specs.Position.{Work, State, Result, visitsOf, fresh, shut, ended, advancedBy, closing, landed, stepOf, iterate, opening, answerBy, refusedAt, ran, unless, wholeOf}
+use Rattle.calls.specs.Position.{Work, State, visitsOf, fresh, shut, ended, advancedBy, closing, landed, stepOf, iterate, opening, answerBy, refusedAt, ran, unless, wholeOf}
 use Rattle.calls.specs.declared.position.Outcome.{Outcome}
 use Rattle.calls.specs.declared.position.Outcome.the-variants.{Open, Accepted, Refused}
-use Rattle.calls.specs.declared.position.Position.{Position}
 use Rattle.calls.proofs.Steps.{visits, closed, step-closed, step-open}
 
 is-open : (o : Outcome) → ended o ≡ false → o ≡ Open

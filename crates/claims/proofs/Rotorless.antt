@@ -5,7 +5,7 @@ use mathlib.Core.Path.{_≡_, refl, sym, ap, _∙_, fun-ext}
 use Prim.Native.Nat.{ℕ, _+_, _-_, _<_}
 use native.Mathlib.Omega.{arith}
 use borrow.Author.Tests.{ltb-true, ltb-false}
-use lib.Dec.{eqb, ltb}
+use lib.Dec.{ltb}
 use lib.ListN.{set, getD}
 use lib.Seq.{set-getD}
 use lib.Ieee.{Float, ne, nan}
@@ -19,7 +19,6 @@ use Rattle.arm.specs.Joint.{motionBy, withRotor}
 use Rattle.arm.specs.Model.{kindOf, motionOf, rotorOf}
 use Rattle.arm.specs.Topology.{activesOf, activeJoint}
 use Rattle.arm.specs.declared.joint.Motion.{Motion}
-use Rattle.arm.specs.declared.joint.Motion.the-variants.{Turn, Slide, Fixed}
 use Rattle.arm.specs.declared.model.Model.{Model}
 use Rattle.arm.proofs.topology.Actives.{found-is}
 use Rattle.calls.specs.Plan.{planOf, planBy}

@@ -1,22 +1,17 @@
 -- THE ROTOR OF ONE JOINT changes no number of the matrix but the joint's own diagonal entry, on either root. Assumes nothing.
-use mathlib.Core.Bool.{Bool, true, false, not, cond}
 use mathlib.Core.List.{List}
 use mathlib.Core.Path.{_≡_, refl, sym, ap, _∙_}
-use Prim.Native.Nat.{ℕ, _+_, _-_, _*_, _≤_, _<_}
+use Prim.Native.Nat.{ℕ, _+_, _<_}
 use native.Mathlib.Omega.{arith}
-use borrow.Author.Tests.{eqb-true, eqb-false}
-use lib.Dec.{eqb, ltb}
 use lib.ListN.{length, getD, set}
 use lib.Seq.{getD-set-other}
 use lib.Ieee.{Float, nan}
 use Rattle.numbers.proofs.Tables.{getD-tab}
 use Rattle.slots.specs.Slots.{partOf}
 use Rattle.slots.proofs.Alike.{Alike, cleared-alike}
-use Rattle.arm.specs.Model.{rotorOf}
 use Rattle.arm.specs.Topology.{activeNumbers}
 use Rattle.arm.specs.declared.model.Model.{Model}
 use Rattle.calls.specs.Plan.{planBy, planOf}
-use Rattle.calls.specs.Position.{ended}
 use Rattle.calls.specs.declared.plan.Plan.{Plan}
 use Rattle.calls.proofs.Pairs.{accepted-fine, Written, both-written}
 use Rattle.composites.specs.Plan.{matrixPlace}

@@ -10,14 +10,13 @@ use lib.ListN.{take, drop}
 use lib.Ieee.{Float}
 use Rattle.numbers.specs.Double.{allFinite}
 use Rattle.numbers.specs.declared.quaternion.Quaternion.{Quaternion}
-use Rattle.refusals.specs.declared.Place.the-variants.{Nothing}
 use Rattle.arm.specs.declared.model.Model.{Model}
 use Rattle.calls.specs.Plan.{planBy, planOf, Within}
 use Rattle.calls.specs.Position.{visitsOf, ended, advancedBy}
 use Rattle.calls.specs.Portions.{Sound}
 use Rattle.calls.specs.declared.plan.Plan.{Plan}
 use Rattle.calls.specs.declared.position.Outcome.{Outcome}
-use Rattle.calls.specs.declared.position.Outcome.the-variants.{Open, Accepted, Refused}
+use Rattle.calls.specs.declared.position.Outcome.the-variants.{Open}
 use Rattle.calls.specs.declared.position.Position.{Position}
 use Rattle.calls.specs.declared.position.Progress.{Progress}
 use Rattle.calls.proofs.Kept.{either-way}

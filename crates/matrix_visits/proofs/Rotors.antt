@@ -1,13 +1,11 @@
 -- The visits of two models that differ in their rotors alone: the workspaces stay alike but for the diagonal entries of the joints whose rotors differ. Assumes nothing.
-use mathlib.Core.Bool.{Bool, true, false, cond}
 use mathlib.Core.List.{List}
-use mathlib.Core.Path.{_≡_, refl, sym, ap, ap₂, _∙_}
+use mathlib.Core.Path.{_≡_, refl, ap, ap₂}
 use Prim.Native.Nat.{ℕ, zero, suc, _+_, _-_, _*_, _≤_, _<_}
 use native.Mathlib.Omega.{arith}
 use borrow.Author.Tests.{ltb-true, ltb-false}
 use lib.Dec.{eqb, ltb}
-use lib.ListN.{length, getD, set}
-use lib.Ieee.{Float, nan}
+use lib.Ieee.{Float}
 use Rattle.numbers.specs.declared.quaternion.Quaternion.{Quaternion}
 use Rattle.refusals.specs.declared.Place.{Place}
 use Rattle.refusals.specs.declared.Place.the-variants.{At, Nothing}

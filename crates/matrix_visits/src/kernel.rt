@@ -1,8 +1,7 @@
 // The visits: frames rising, composites falling, active columns rising, the root.
 ghost use mathlib.Core.Path.{_≡_};
 ghost use Prim.Native.Nat.{_+_, _≤_, _<_};
-ghost use lib.ListN.{length, take, drop};
-ghost use Rattle.numbers.specs.Double.{allFinite};
+ghost use lib.ListN.{length};
 ghost use Rattle.slots.specs.Slots.{putWrench};
 ghost use Rattle.arm.specs.Model.{bundle, Tree, parentOf};
 ghost use Rattle.arm.specs.Topology.{activesOf};
@@ -17,7 +16,6 @@ use calls::position::Outcome;
 use composites::composite;
 use composites::plan;
 use matrix_columns::column;
-use numbers::double;
 use numbers::quaternion::Quaternion;
 use numbers::vec3::Vec3;
 use refusals::Place;
@@ -172,15 +170,6 @@ fn root_columns(p: Plan, r: Quaternion, ws: &mut [f64])
     base_columns(p, r, root, ws);
 }
 
-// Whether `count` numbers from `at` on are finite.
-fn finite_part(s: &[f64], at: usize, count: usize) -> bool
-    requires { ⌜ at + count ≤ length (now s) ⌝ }
-    ensures { λ r. ⌜ r ≡ allFinite (take count (drop at (now (s .entry)))) ⌝ }
-{
-    let end = at + count;
-    double::all_finite(&s[at..end])
-}
-
 // Every entry is tested.
 fn test(p: Plan, ws: &[f64]) -> Outcome
     requires { ⌜ Room p (length (now ws)) ⌝ }
@@ -188,7 +177,7 @@ fn test(p: Plan, ws: &[f64]) -> Outcome
 {
     let n = p.n;
     let side = p.side;
-    if finite_part(ws, n * plan::JOINT + plan::ROOT, side * side) {
+    if slots::finite_part(ws, n * plan::JOINT + plan::ROOT, side * side) {
         return Outcome::Accepted;
     }
     Outcome::Refused(37, Place::Nothing)

@@ -1,9 +1,11 @@
-// Struct-sized reads and writes in a lent slice of numbers, at an offset. Every store to a workspace is made here.
+// Struct-sized reads and writes in a lent slice of numbers, at an offset, and the test of a part. Every store to a workspace is made here.
 ghost use mathlib.Core.Path.{_≡_};
 ghost use Prim.Native.Nat.{_+_, _≤_, _<_};
-ghost use lib.ListN.{length, getD, set};
+ghost use lib.ListN.{length, getD, set, take, drop};
 ghost use lib.Ieee.{nan};
+ghost use Rattle.numbers.specs.Double.{allFinite};
 ghost use Rattle.slots.specs.Slots.{vec3At, putVec3, mat3At, putMat3, mat6At, putMat6, twistAt, putTwist, wrenchAt, putWrench, frameAt, putFrame, zeroTo, cleared, partOf};
+use numbers::double;
 use numbers::mat3::Mat3;
 use numbers::quaternion::Quaternion;
 use numbers::vec3::Vec3;
@@ -16,6 +18,15 @@ pub fn number_at(s: &[f64], at: usize) -> f64
     ensures { λ r. ⌜ r ≡ getD (now (s .entry)) at nan ⌝ }
 {
     s[at]
+}
+
+// Whether `count` numbers from `at` on are finite.
+pub fn finite_part(s: &[f64], at: usize, count: usize) -> bool
+    requires { ⌜ at + count ≤ length (now s) ⌝ }
+    ensures { λ r. ⌜ r ≡ allFinite (take count (drop at (now (s .entry)))) ⌝ }
+{
+    let end = at + count;
+    double::all_finite(&s[at..end])
 }
 
 pub fn put_number(s: &mut [f64], at: usize, x: f64)

@@ -4,8 +4,8 @@ use native.Mathlib.Omega.{arith}
 use borrow.Author.Needs.{needs}
 use lib.ListN.{take, drop}
 use Rattle.numbers.specs.Double.{allFinite}
-use Rattle.matrix_visits.proofs.kernel.finite_part.Statement.{statement}
-use Rattle.matrix_visits.proofs.kernel.finite_part.Tie as tie
+use Rattle.slots.proofs.finite_part.Statement.{statement}
+use Rattle.slots.proofs.finite_part.Tie as tie
 
 add-end : tie.Need-add-end
 add-end c = search needs
