@@ -3,7 +3,7 @@ use mathlib.Core.List.{List}
 use Prim.Native.Nat.{ℕ, _+_}
 use lib.ListN.{getD, set}
 use lib.Ieee.{Float, nan}
-use Rattle.numbers.specs.Double.{_⊕_, _⊗_, 2·0}
+use Rattle.numbers.specs.Double.{_⊕_, _⊗_, 0·0, 2·0}
 use Rattle.numbers.specs.Vec3.{plusOf, scaleOf, dotOf, crossOf}
 use Rattle.numbers.specs.Quaternion.{matrixOf}
 use Rattle.numbers.specs.Mat3.{applyOf, turnedOf, outerOf, identityBy, minusOf, plusOf as matPlus}
@@ -62,3 +62,9 @@ unfoldable pub forceOf : Motion → Link → Wrench
 forceOf (Turn axis) c = record { torque = applyOf (c .inertia) axis; force = crossOf axis (c .moment) }
 forceOf (Slide axis) c = record { torque = crossOf (c .moment) axis; force = scaleOf axis (c .mass) }
 forceOf Fixed c = zerosOf
+
+-- S·F, what a wrench gives along a motion
+unfoldable pub entryOf : Motion → Wrench → Float
+entryOf (Turn axis) w = dotOf axis (w .torque)
+entryOf (Slide axis) w = dotOf axis (w .force)
+entryOf Fixed w = 0·0

@@ -2,7 +2,7 @@
 ghost use mathlib.Core.Path.{_≡_};
 ghost use Prim.Native.Nat.{_+_, _≤_};
 ghost use lib.ListN.{length};
-ghost use Rattle.composites.specs.Composite.{compositeAt, putComposite, shiftedOf, toParentOf, joinedOf, forceOf};
+ghost use Rattle.composites.specs.Composite.{compositeAt, putComposite, shiftedOf, toParentOf, joinedOf, forceOf, entryOf};
 use arm::joint::Motion;
 use arm::model::Link;
 use numbers::mat3;
@@ -109,5 +109,16 @@ pub fn force(motion: Motion, c: Link) -> Wrench
         Motion::Turn(axis) => turn_force(axis, c),
         Motion::Slide(axis) => slide_force(axis, c),
         Motion::Fixed => Wrench::zeros(),
+    }
+}
+
+// What a wrench gives along a motion.
+pub fn entry(motion: Motion, w: Wrench) -> f64
+    ensures { λ r. ⌜ r ≡ entryOf motion w ⌝ }
+{
+    match motion {
+        Motion::Turn(axis) => axis.dot(w.torque),
+        Motion::Slide(axis) => axis.dot(w.force),
+        Motion::Fixed => 0.0,
     }
 }

@@ -19,11 +19,14 @@ restVerdict n side floating r kinds q out =
     (orElse (plainOf 17 (not (eqb out (side * side))))
     (plainOf 22 (floating && badRotation r)))
 
--- 9, 10, 11, 12 before them
+-- 11 and 12 before them: what a model without cause 9 is asked beside its workspace
+unfoldable pub tameVerdict : ℕ → ℕ → Bool → Quaternion → List ℕ → List Float → ℕ → Verdict
+tameVerdict n side floating r kinds q out = orElse (valuesVerdict 11 12 kinds n q) (restVerdict n side floating r kinds q out)
+
+-- 9 and 10 before them
 unfoldable pub inputsVerdict : Bool → Quaternion → ℕ → List ℕ → List ℕ → List Float → ℕ → ℕ → Verdict
 inputsVerdict floating r n parents kinds q ws out =
     let side = planOf floating n kinds .side in
     orElse (plainOf 9 (wildOf n parents kinds))
     (orElse (plainOf 10 (ltb ws (matrixPlace n + side * side)))
-    (orElse (valuesVerdict 11 12 kinds n q)
-    (restVerdict n side floating r kinds q out)))
+    (tameVerdict n side floating r kinds q out))

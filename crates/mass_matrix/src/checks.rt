@@ -3,7 +3,7 @@ ghost use mathlib.Core.Path.{_≡_};
 ghost use Prim.Native.Nat.{_≤_};
 ghost use lib.ListN.{length};
 ghost use Rattle.arm.specs.Topology.{activesOf, activeNumbers};
-ghost use Rattle.mass_matrix.specs.Checks.{restVerdict, inputsVerdict};
+ghost use Rattle.mass_matrix.specs.Checks.{restVerdict, tameVerdict, inputsVerdict};
 use arm::model;
 use arm::topology;
 use calls::checks;
@@ -35,6 +35,28 @@ fn judged_rest<'a>(
     refusals::first(turns, refusals::first(output, rotation))
 }
 
+// 11 and 12 before them.
+pub fn judged_tame<'a>(
+    n: usize,
+    side: usize,
+    floating: bool,
+    r: Quaternion,
+    kinds: &'a [u8; 32],
+    numbers: &'a [u8; 33],
+    a: usize,
+    q: &'a [f64],
+    out: usize,
+) -> Verdict
+    requires { ⌜ (now numbers ≡ activeNumbers (now kinds)) × (n ≤ 32) × (side ≤ 38) × (a ≡ activesOf (now kinds) n) ⌝ }
+    ensures { λ v. ⌜ v ≡ tameVerdict n side floating r (now (kinds .entry)) (now (q .entry)) out ⌝ }
+{
+    let values = checks::check_values(11, 12, kinds, numbers, n, a, q);
+    let Verdict::Fine = values else {
+        return values;
+    };
+    judged_rest(n, side, floating, r, kinds, numbers, q, out)
+}
+
 // The checks to 22.
 pub fn judged<'a>(
     floating: bool,
@@ -59,9 +81,5 @@ pub fn judged<'a>(
     if ws < n * places::JOINT + places::ROOT + side * side {
         return Verdict::Refused(10, Place::Nothing);
     }
-    let values = checks::check_values(11, 12, kinds, numbers, n, a, q);
-    let Verdict::Fine = values else {
-        return values;
-    };
-    judged_rest(n, side, floating, r, kinds, numbers, q, out)
+    judged_tame(n, side, floating, r, kinds, numbers, a, q, out)
 }

@@ -5,8 +5,6 @@ use mathlib.Core.Path.{_≡_}
 use Prim.Native.Nat.{ℕ, zero, suc, _+_, _-_}
 use lib.Dec.{eqb}
 use lib.Ieee.{Float}
-use Rattle.numbers.specs.Double.{0·0}
-use Rattle.numbers.specs.Vec3.{dotOf}
 use Rattle.numbers.specs.declared.quaternion.Quaternion.{Quaternion}
 use Rattle.refusals.specs.declared.Place.{Place}
 use Rattle.refusals.specs.declared.Place.the-variants.{At, Nothing}
@@ -19,15 +17,9 @@ use Rattle.arm.specs.Topology.{activesOf, activeJoint}
 use Rattle.arm.specs.declared.joint.Motion.{Motion}
 use Rattle.arm.specs.declared.joint.Motion.the-variants.{Turn, Slide, Fixed}
 use Rattle.arm.specs.declared.model.Model.{Model}
-use Rattle.composites.specs.Composite.{compositeAt, forceOf}
+use Rattle.composites.specs.Composite.{compositeAt, forceOf, entryOf}
 use Rattle.composites.specs.Plan.{framePlace, compositePlace, putPair, putSix, addRotor}
 use Rattle.calls.specs.declared.plan.Plan.{Plan}
-
--- S·F, what a wrench gives along a motion
-unfoldable pub entryOf : Motion → Wrench → Float
-entryOf (Turn axis) w = dotOf axis (w .torque)
-entryOf (Slide axis) w = dotOf axis (w .force)
-entryOf Fixed w = 0·0
 
 -- a joint's entry in a column and its mirror; nothing for a fixed joint
 unfoldable pub putEntry : Plan → Motion → ℕ → ℕ → Float → List Float → List Float

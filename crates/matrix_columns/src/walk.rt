@@ -10,26 +10,16 @@ ghost use Rattle.arm.specs.Model.{kindOf};
 ghost use Rattle.arm.specs.Topology.{activesOf};
 ghost use Rattle.calls.specs.Plan.{Fit};
 ghost use Rattle.composites.specs.Plan.{framePlace, Room, putPair, putSix};
-ghost use Rattle.matrix_columns.specs.Walk.{entryOf, putEntry, putHere, planWith, wrenchWith, Reached};
+ghost use Rattle.matrix_columns.specs.Walk.{putEntry, putHere, planWith, wrenchWith, Reached};
 use arm::joint::Motion;
 use arm::model;
 use calls::plan::Plan;
+use composites::composite;
 use composites::plan;
 use numbers::quaternion::Quaternion;
 use numbers::vec3::Vec3;
 use spatial::operators;
 use spatial::wrench::Wrench;
-
-// What a wrench gives along a motion.
-fn entry(motion: Motion, w: Wrench) -> f64
-    ensures { λ r. ⌜ r ≡ entryOf motion w ⌝ }
-{
-    match motion {
-        Motion::Turn(axis) => axis.dot(w.torque),
-        Motion::Slide(axis) => axis.dot(w.force),
-        Motion::Fixed => 0.0,
-    }
-}
 
 // An active joint's entry in a column, and its mirror.
 fn put_active<'a>(
@@ -87,7 +77,7 @@ fn put_here<'a>(
     ensures { λ _. ⌜ now (ws .exit) ≡ putHere p (now (kinds .entry)) (now (axes .entry)) column j w (now (ws .entry)) ⌝ }
 {
     let motion = model::motion_at(kinds, axes, j);
-    let e = entry(motion, w);
+    let e = composite::entry(motion, w);
     put_entry(p, motion, parents, kinds, numbers, ws, j, column, e);
 }
 

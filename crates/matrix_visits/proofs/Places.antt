@@ -26,9 +26,9 @@ use Rattle.arm.specs.declared.model.Link.{Link}
 use Rattle.arm.specs.declared.model.Model.{Model}
 use Rattle.calls.specs.declared.plan.Plan.{Plan}
 use Rattle.calls.specs.declared.position.Outcome.{Outcome}
-use Rattle.composites.specs.Composite.{compositeAt, putComposite, forceOf}
+use Rattle.composites.specs.Composite.{compositeAt, putComposite, forceOf, entryOf}
 use Rattle.composites.specs.Plan.{compositePlace, rootPlace, matrixPlace, placeOf, putPair, putSix, addRotor}
-use Rattle.matrix_columns.specs.Walk.{entryOf, putEntry, walkStep, climb, walkOf, baseRows, columnVisit, columnFound}
+use Rattle.matrix_columns.specs.Walk.{putEntry, walkStep, climb, walkOf, baseRows, columnVisit, columnFound}
 use Rattle.matrix_visits.specs.Kernel.{begunOf, frameVisit, addInto, compositeVisit, baseLoadsTo, rootColumns, rootVisit, jointVisit, visitOf}
 use Rattle.matrix_visits.specs.Places.{rootPart, begunParts, frameParts, compositeParts, pairParts, entryParts, pathParts, rowsTo, columnParts, columnsTo, baseParts, jointParts, setBy}
 

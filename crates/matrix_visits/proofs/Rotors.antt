@@ -26,9 +26,9 @@ use Rattle.arm.proofs.topology.Actives.{found-is}
 use Rattle.calls.specs.declared.plan.Plan.{Plan}
 use Rattle.calls.specs.declared.position.Outcome.{Outcome}
 use Rattle.calls.proofs.Kept.{chosen}
-use Rattle.composites.specs.Composite.{compositeAt, putComposite, toParentOf, joinedOf, forceOf}
+use Rattle.composites.specs.Composite.{compositeAt, putComposite, toParentOf, joinedOf, forceOf, entryOf}
 use Rattle.composites.specs.Plan.{framePlace, compositePlace, rootPlace, matrixPlace, placeOf, roomOf, putPair, putSix, addRotor}
-use Rattle.matrix_columns.specs.Walk.{entryOf, putEntry, walkStep, climb, walkOf, baseRows, columnVisit, columnFound}
+use Rattle.matrix_columns.specs.Walk.{putEntry, walkStep, climb, walkOf, baseRows, columnVisit, columnFound}
 use Rattle.matrix_visits.specs.Kernel.{begunOf, frameVisit, addInto, compositeVisit, baseLoadsTo, rootColumns, rootVisit, jointVisit, visitOf}
 
 -- ---- what the visits put into both

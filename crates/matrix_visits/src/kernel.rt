@@ -127,7 +127,7 @@ fn world_axis(k: usize) -> Vec3
 }
 
 // What moves the whole arm along base direction k, in the world.
-fn base_load(r: Quaternion, root: Link, k: usize) -> Wrench
+pub fn base_load(r: Quaternion, root: Link, k: usize) -> Wrench
     ensures { λ w. ⌜ w ≡ baseLoad r root k ⌝ }
 {
     let axis = r.inverse().rotate(world_axis(k % 3));

@@ -1,8 +1,12 @@
 -- Blocks of a list of numbers: what is written at one place leaves every other, and a reader sees its own block alone. Assumes nothing.
+use mathlib.Core.Bool.{Bool, true, false}
 use mathlib.Core.List.{List, [], _∷_, _++_}
+use mathlib.Core.Logic.{_⊎_, inl, inr}
 use mathlib.Core.Path.{_≡_, refl, _∙_}
 use Prim.Native.Nat.{ℕ, zero, suc, _+_, _≤_, _<_}
 use native.Mathlib.Omega.{arith}
+use borrow.Author.Tests.{ltb-true, ltb-false}
+use lib.Dec.{ltb}
 use lib.ListN.{length, getD, set}
 use lib.Seq.{getD-set-other}
 use lib.Ieee.{Float, nan}
@@ -43,6 +47,14 @@ both f g = record { kept = λ i o. g .kept i o ∙ f .kept i o }
 
 pub untouched : {at l : ℕ} (s : List Float) → Outside at l s s
 untouched s = record { kept = λ i o. refl }
+
+-- a place lies before another, or not
+pub split : (i u : ℕ) → (i < u) ⊎ (u ≤ i)
+split i u = go (ltb i u) refl
+  where
+    go : (b : Bool) → ltb i u ≡ b → (i < u) ⊎ (u ≤ i)
+    go true e = inl (ltb-true i u e)
+    go false e = inr (ltb-false i u e)
 
 -- ---- writers
 

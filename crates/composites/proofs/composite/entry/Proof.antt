@@ -1,7 +1,7 @@
-use Rattle.matrix_columns.specs.Walk.{entryOf}
+use Rattle.composites.specs.Composite.{entryOf}
 use borrow.Author.Needs.{needs}
-use Rattle.matrix_columns.proofs.walk.entry.Statement.{statement}
-use Rattle.matrix_columns.proofs.walk.entry.Tie as tie
+use Rattle.composites.proofs.composite.entry.Statement.{statement}
+use Rattle.composites.proofs.composite.entry.Tie as tie
 
 enum-known-motion : tie.Need-enum-known-motion
 enum-known-motion c = search needs

@@ -1,0 +1,3 @@
+pub mod Arm
+pub mod Gather
+pub mod Entries
