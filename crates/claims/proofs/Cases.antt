@@ -70,7 +70,7 @@ unfolding checks.badValue checks.valuesVerdict checks.farTurn checks.turnsVerdic
 open-calls = Unit {0}
 
 open-matrix : Type 0
-unfolding composite.compositeAt composite.putComposite composite.shiftedOf composite.toParentOf composite.joinedOf composite.forceOf columns.begunOf columns.frameVisit columns.addInto columns.compositeVisit walk.baseRows walk.columnVisit walk.columnFound columns.rootColumns columns.tested columns.rootVisit columns.jointVisit columns.visitOf limits.restVerdict limits.inputsVerdict matrix.massMatrix plan.planBy sizes.putPair sizes.addRotor walk.entryOf walk.putEntry walk.walkStep walk.climb walk.walkOf
+unfolding composite.compositeAt composite.putComposite composite.shiftedOf composite.toParentOf composite.joinedOf composite.forceOf composite.entryOf columns.begunOf columns.frameVisit columns.addInto columns.compositeVisit walk.baseRows walk.columnVisit walk.columnFound columns.rootColumns columns.tested columns.rootVisit columns.jointVisit columns.visitOf limits.restVerdict limits.tameVerdict limits.inputsVerdict matrix.massMatrix plan.planBy sizes.putPair sizes.addRotor walk.putEntry walk.walkStep walk.climb walk.walkOf
 open-matrix = Unit {0}
 
 open-articulated : Type 0

@@ -1,7 +1,8 @@
 -- Places of a matrix's entries: different entries lie apart, and an entry is read back with its mirror. Assumes nothing.
+use mathlib.Core.Bool.{Bool, true, false, not}
 use mathlib.Core.List.{List}
 use mathlib.Core.Logic.{⊎-elim}
-use mathlib.Core.Path.{_≡_, sym, ap, _∙_}
+use mathlib.Core.Path.{_≡_, refl, sym, ap, _∙_}
 use Prim.Native.Nat.{ℕ, _+_, _*_, _≤_, _<_}
 use native.Mathlib.Nat.{suc-mul, mul-le-mul-right, eq-or-lt-of-le}
 use native.Mathlib.Omega.{arith}
@@ -34,11 +35,11 @@ place-fits p row column h g = (omega arith, omega (arith, square row column (p .
 
 module _ (p : Plan) (row column : ℕ) (v : Float) (ws : List Float) (h : row < p .side) (g : column < p .side) where
   -- an entry is what was put there, and so is its mirror
-  pub pair-mirror : roomOf p ≤ length ws → getD (putPair p row column v ws) (placeOf p column row) nan ≡ v
+  pair-mirror : roomOf p ≤ length ws → getD (putPair p row column v ws) (placeOf p column row) nan ≡ v
   unfolding putPair
   pair-mirror room = getD-set-same (set ws (placeOf p row column) v) (placeOf p column row) v nan (omega (arith, length-set ws (placeOf p row column) v, place-fits p column row g h))
 
-  pub pair-here : roomOf p ≤ length ws → getD (putPair p row column v ws) (placeOf p row column) nan ≡ v
+  pair-here : roomOf p ≤ length ws → getD (putPair p row column v ws) (placeOf p row column) nan ≡ v
   unfolding putPair
   pair-here room = ⊎-elim below (λ c. ⊎-elim same above (eq-or-lt-of-le c)) (split row column)
     where
@@ -60,7 +61,7 @@ module _ (p : Plan) (row column : ℕ) (v : Float) (ws : List Float) (h : row < 
       same e = rw e (getD-set-same (set ws (placeOf p row row) v) (placeOf p row row) v nan (omega (arith, length-set ws (placeOf p row row) v, place-fits p row row h h)))
 
   -- every other entry stays
-  pub pair-other : (row′ column′ : ℕ) → row′ < p .side → column′ < p .side → (row′ ≡ row → column′ ≡ column → ⊥) → (row′ ≡ column → column′ ≡ row → ⊥)
+  pair-other : (row′ column′ : ℕ) → row′ < p .side → column′ < p .side → (row′ ≡ row → column′ ≡ column → ⊥) → (row′ ≡ column → column′ ≡ row → ⊥)
       → getD (putPair p row column v ws) (placeOf p row′ column′) nan ≡ getD ws (placeOf p row′ column′) nan
   unfolding putPair
   pair-other row′ column′ h′ g′ f f′ =
@@ -76,26 +77,59 @@ module _ (p : Plan) (row column : ℕ) (v : Float) (ws : List Float) (h : row < 
       both (wider (set-outside ws (placeOf p row column) v) (omega arith) (omega (arith, place-fits p row column h g)))
       (wider (set-outside (set ws (placeOf p row column) v) (placeOf p column row) v) (omega arith) (omega (arith, place-fits p column row g h)))
 
-  pub length-pair : length (putPair p row column v ws) ≡ length ws
-  unfolding putPair
-  length-pair = simp length-set
+-- ---- an entry, or its mirror
+
+-- the place of a row and a column, or of the same two the other way round
+abbrev pub facing : Plan → Bool → ℕ → ℕ → ℕ
+facing p true row column = placeOf p row column
+facing p false row column = placeOf p column row
+
+pub facing-flips : (p : Plan) (b : Bool) (row column : ℕ) → facing p b row column ≡ facing p (not b) column row
+facing-flips p true row column = refl
+facing-flips p false row column = refl
+
+pub facing-fits : (p : Plan) (b : Bool) (row column : ℕ) → row < p .side → column < p .side → (matrixPlace (p .n) ≤ facing p b row column) × (facing p b row column < roomOf p)
+facing-fits p true row column h g = place-fits p row column h g
+facing-fits p false row column h g = place-fits p column row g h
+
+module _ (p : Plan) (row column : ℕ) (v : Float) (ws : List Float) (h : row < p .side) (g : column < p .side) where
+  pub pair-put : roomOf p ≤ length ws → (b : Bool) → getD (putPair p row column v ws) (facing p b row column) nan ≡ v
+  pair-put room true = pair-here p row column v ws h g room
+  pair-put room false = pair-mirror p row column v ws h g room
+
+  pub pair-away : (row′ column′ : ℕ) → row′ < p .side → column′ < p .side → (row′ ≡ row → column′ ≡ column → ⊥) → (row′ ≡ column → column′ ≡ row → ⊥) → (b : Bool)
+      → getD (putPair p row column v ws) (facing p b row′ column′) nan ≡ getD ws (facing p b row′ column′) nan
+  pair-away row′ column′ h′ g′ f f′ true = pair-other p row column v ws h g row′ column′ h′ g′ f f′
+  pair-away row′ column′ h′ g′ f f′ false = pair-other p row column v ws h g column′ row′ g′ h′ (λ x y. f′ y x) (λ x y. f y x)
 
 -- ---- a rotor changes its own diagonal entry alone
 
 module _ (p : Plan) (row : ℕ) (rotor : Float) (ws : List Float) (h : row < p .side) where
-  pub rotor-here : roomOf p ≤ length ws → getD (addRotor p row rotor ws) (placeOf p row row) nan ≡ withRotor rotor (getD ws (placeOf p row row) nan)
+  pub rotor-put : roomOf p ≤ length ws → (b : Bool) → getD (addRotor p row rotor ws) (facing p b row row) nan ≡ withRotor rotor (getD ws (facing p b row row) nan)
   unfolding addRotor
-  rotor-here room = getD-set-same ws (placeOf p row row) _ nan (omega (arith, place-fits p row row h h))
+  rotor-put room true = getD-set-same ws (placeOf p row row) _ nan (omega (arith, place-fits p row row h h))
+  rotor-put room false = getD-set-same ws (placeOf p row row) _ nan (omega (arith, place-fits p row row h h))
 
-  pub rotor-other : (row′ column′ : ℕ) → row′ < p .side → (row′ ≡ row → column′ ≡ row → ⊥) → getD (addRotor p row rotor ws) (placeOf p row′ column′) nan ≡ getD ws (placeOf p row′ column′) nan
+  rotor-other : (row′ column′ : ℕ) → row′ < p .side → (row′ ≡ row → column′ ≡ row → ⊥) → getD (addRotor p row rotor ws) (placeOf p row′ column′) nan ≡ getD ws (placeOf p row′ column′) nan
   unfolding addRotor
   rotor-other row′ column′ h′ f =
       set-outside ws (placeOf p row row) _ .kept (placeOf p row′ column′) (λ a b. let e = same-place p row′ column′ row row h′ h (omega arith) in f (e .0) (e .1))
+
+  pub rotor-away : (row′ column′ : ℕ) → row′ < p .side → column′ < p .side → (row′ ≡ row → column′ ≡ row → ⊥) → (b : Bool)
+      → getD (addRotor p row rotor ws) (facing p b row′ column′) nan ≡ getD ws (facing p b row′ column′) nan
+  rotor-away row′ column′ h′ g′ f true = rotor-other row′ column′ h′ f
+  rotor-away row′ column′ h′ g′ f false = rotor-other column′ row′ g′ (λ x y. f y x)
 
   pub rotor-outside : Outside (matrixPlace (p .n)) (p .side * p .side) ws (addRotor p row rotor ws)
   unfolding addRotor
   rotor-outside = wider (set-outside ws (placeOf p row row) _) (omega arith) (omega (arith, place-fits p row row h h))
 
-  pub length-rotor : length (addRotor p row rotor ws) ≡ length ws
-  unfolding addRotor
-  length-rotor = simp length-set
+-- ---- the workspace's length stays
+
+pub length-putPair : (p : Plan) (row column : ℕ) (entry : Float) (ws : List Float) → length (putPair p row column entry ws) ≡ length ws
+unfolding putPair
+length-putPair p row column entry ws = simp length-set
+
+pub length-addRotor : (p : Plan) (row : ℕ) (rotor : Float) (ws : List Float) → length (addRotor p row rotor ws) ≡ length ws
+unfolding addRotor
+length-addRotor p row rotor ws = simp length-set

@@ -1,2 +1,3 @@
 pub mod Ready
 pub mod Sound
+pub mod Runs

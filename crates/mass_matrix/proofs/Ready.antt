@@ -16,7 +16,7 @@ use Rattle.calls.specs.declared.plan.Plan.{Plan}
 use Rattle.calls.proofs.Fits.{fits, side-most}
 use Rattle.calls.proofs.Passed.{tame, not-short, as-wanted, counted}
 use Rattle.composites.specs.Plan.{matrixPlace, Room}
-use Rattle.mass_matrix.specs.Checks.{restVerdict, inputsVerdict}
+use Rattle.mass_matrix.specs.Checks.{restVerdict, tameVerdict, inputsVerdict}
 use Rattle.mass_matrix.specs.MassMatrix.{Ready}
 
 roomy : (floating : Bool) (n : ℕ) (parents kinds : List ℕ) (ws : ℕ) → Good n parents kinds → matrixPlace n + planOf floating n kinds .side * planOf floating n kinds .side ≤ ws
@@ -30,7 +30,7 @@ module _ (floating : Bool) (r : Quaternion) (n : ℕ) (parents kinds : List ℕ)
   passed-good = tame n parents kinds (plain-fine 9 (wildOf n parents kinds) (both-fine _ _ v .0))
 
   passed-ready : (numbers : List ℕ) → numbers ≡ activeNumbers kinds → Ready (planOf floating n kinds) parents kinds numbers (length q) ws out
-  unfolding inputsVerdict restVerdict planBy
+  unfolding inputsVerdict tameVerdict restVerdict planBy
   passed-ready numbers e =
       let a = both-fine _ _ (both-fine _ _ v .1) in
       let b = both-fine _ _ (a .1) in

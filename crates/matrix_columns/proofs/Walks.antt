@@ -25,8 +25,8 @@ use Rattle.arm.proofs.topology.Counts.{actives-below}
 use Rattle.calls.specs.Plan.{Fit}
 use Rattle.calls.specs.declared.plan.Plan.{Plan}
 use Rattle.composites.specs.Composite.{entryOf}
-use Rattle.composites.specs.Plan.{framePlace, placeOf, putPair}
-use Rattle.composites.proofs.Entries.{pair-here, pair-mirror, pair-other, pair-outside, length-pair}
+use Rattle.composites.specs.Plan.{framePlace, putPair}
+use Rattle.composites.proofs.Entries.{facing, pair-put, pair-away, pair-outside, length-putPair}
 use Rattle.plain_entries.specs.Arm.{Arm, armOf}
 use Rattle.plain_entries.specs.Entries.{along, toRoot}
 use Rattle.plain_entries.proofs.Depths.{either}
@@ -86,26 +86,28 @@ module _ (a : Arm) (below : (j : ℕ) → j < a .n → a .parent j ≤ j) (i : �
 -- ---- the walk's workspace
 
 module _ (p : Plan) (m : Model) (q : List Float) (c : ℕ → Link) (column : ℕ) where
+  -- where a number stands that belongs to joint i and the column: its entry, or the mirror
+  abbrev spot : Bool → ℕ → ℕ
+  spot b i = facing p b (rowFor p (m .kinds) i) column
+
+  -- t has the numbers of ws but in the column and its mirror
+  abbrev pub Beside : List Float → List Float → Type 0
+  Beside ws t = (row column′ : ℕ) → row < p .side → column′ < p .side → (row ≡ column → ⊥) → (column′ ≡ column → ⊥) → (b : Bool)
+      → getD t (facing p b row column′) nan ≡ getD ws (facing p b row column′) nan
+
   -- t, after the walk from joint j with w and ws, at most k joints
   pub record Walked (k j : ℕ) (w : Wrench) (ws : List Float) (t : Wrench × List Float) : Type 0 where
     pub holds : Holds p (armOf m q) (p .n) c (t .1)
     pub up : t .0 ≡ toRoot (armOf m q) k j w
-    pub met : (i : ℕ) → i < p .n → Active (m .kinds) i
-        → getD (t .1) (placeOf p (rowFor p (m .kinds) i) column) nan ≡ along (armOf m q) (getD ws (placeOf p (rowFor p (m .kinds) i) column) nan) k j i w
-    pub mirrored : (i : ℕ) → i < p .n → Active (m .kinds) i
-        → getD (t .1) (placeOf p column (rowFor p (m .kinds) i)) nan ≡ along (armOf m q) (getD ws (placeOf p column (rowFor p (m .kinds) i)) nan) k j i w
-    pub other : (row column′ : ℕ) → row < p .side → column′ < p .side → (row ≡ column → ⊥) → (column′ ≡ column → ⊥)
-        → getD (t .1) (placeOf p row column′) nan ≡ getD ws (placeOf p row column′) nan
+    pub met : (i : ℕ) → i < p .n → Active (m .kinds) i → (b : Bool) → getD (t .1) (spot b i) nan ≡ along (armOf m q) (getD ws (spot b i) nan) k j i w
+    pub other : Beside ws (t .1)
 
   -- after one joint's entry
   record Put (j : ℕ) (w : Wrench) (ws t : List Float) : Type 0 where
     pub holds : Holds p (armOf m q) (p .n) c t
-    pub here : (i : ℕ) → i < p .n → Active (m .kinds) i → j ≡ i → getD t (placeOf p (rowFor p (m .kinds) i) column) nan ≡ entryOf (armOf m q .motion i) w
-    pub away : (i : ℕ) → i < p .n → Active (m .kinds) i → (j ≡ i → ⊥) → getD t (placeOf p (rowFor p (m .kinds) i) column) nan ≡ getD ws (placeOf p (rowFor p (m .kinds) i) column) nan
-    pub here′ : (i : ℕ) → i < p .n → Active (m .kinds) i → j ≡ i → getD t (placeOf p column (rowFor p (m .kinds) i)) nan ≡ entryOf (armOf m q .motion i) w
-    pub away′ : (i : ℕ) → i < p .n → Active (m .kinds) i → (j ≡ i → ⊥) → getD t (placeOf p column (rowFor p (m .kinds) i)) nan ≡ getD ws (placeOf p column (rowFor p (m .kinds) i)) nan
-    pub other : (row column′ : ℕ) → row < p .side → column′ < p .side → (row ≡ column → ⊥) → (column′ ≡ column → ⊥)
-        → getD t (placeOf p row column′) nan ≡ getD ws (placeOf p row column′) nan
+    pub here : (i : ℕ) → i < p .n → Active (m .kinds) i → (b : Bool) → j ≡ i → getD t (spot b i) nan ≡ entryOf (armOf m q .motion i) w
+    pub away : (i : ℕ) → i < p .n → Active (m .kinds) i → (b : Bool) → (j ≡ i → ⊥) → getD t (spot b i) nan ≡ getD ws (spot b i) nan
+    pub other : Beside ws t
 
   module _ (fit : Fit p (m .parents) (m .kinds) (activeNumbers (m .kinds))) (joints : m .n ≡ p .n) (inside : column < p .side) where
     abbrev arm : Arm
@@ -121,17 +123,14 @@ module _ (p : Plan) (m : Model) (q : List Float) (c : ℕ → Link) (column : �
     put-active : (j : ℕ) (w : Wrench) (ws : List Float) → j < p .n → Active (m .kinds) j → Holds p arm (p .n) c ws → Put j w ws (putPair p (row j) column (entryOf (arm .motion j) w) ws)
     put-active j w ws h act s =
         let v = entryOf (arm .motion j) w in
+        let own = small j h act in
         record {
-          holds = holds-kept p arm c (pair-outside p (row j) column v ws (small j h act) inside) (length-pair p (row j) column v ws (small j h act) inside) s;
-          here = λ i g f z. rw (← z) (pair-here p (row j) column v ws (small j h act) inside (s .room));
-          away = λ i g f z.
-              pair-other p (row j) column v ws (small j h act) inside (row i) column (small i g f) inside
-              (λ x y. z (sym (row-one p (m .kinds) i j f act x))) (λ x y. z (sym (row-one p (m .kinds) i j f act (x ∙ y))));
-          here′ = λ i g f z. rw (← z) (pair-mirror p (row j) column v ws (small j h act) inside (s .room));
-          away′ = λ i g f z.
-              pair-other p (row j) column v ws (small j h act) inside column (row i) inside (small i g f)
-              (λ x y. z (sym (row-one p (m .kinds) i j f act (y ∙ x)))) (λ x y. z (sym (row-one p (m .kinds) i j f act y)));
-          other = λ r′ c′ x y f g. pair-other p (row j) column v ws (small j h act) inside r′ c′ x y (λ a b. g b) (λ a b. f a);
+          holds = holds-kept p arm c (pair-outside p (row j) column v ws own inside) (length-putPair p (row j) column v ws) s;
+          here = λ i g f b z. rw (← z) (pair-put p (row j) column v ws own inside (s .room) b);
+          away = λ i g f b z.
+              pair-away p (row j) column v ws own inside (row i) column (small i g f) inside
+              (λ x y. z (sym (row-one p (m .kinds) i j f act x))) (λ x y. z (sym (row-one p (m .kinds) i j f act (x ∙ y)))) b;
+          other = λ r′ c′ x y f g b. pair-away p (row j) column v ws own inside r′ c′ x y (λ d e. g e) (λ d e. f d) b;
         }
 
     -- a fixed joint has none
@@ -139,11 +138,9 @@ module _ (p : Plan) (m : Model) (q : List Float) (c : ℕ → Link) (column : �
     put-none j w ws e s =
         record {
           holds = s;
-          here = λ i g f z. absurd (f (ap (kindOf (m .kinds)) (sym z) ∙ e));
-          away = λ i g f z. refl;
-          here′ = λ i g f z. absurd (f (ap (kindOf (m .kinds)) (sym z) ∙ e));
-          away′ = λ i g f z. refl;
-          other = λ r′ c′ x y f g. refl;
+          here = λ i g f b z. absurd (f (ap (kindOf (m .kinds)) (sym z) ∙ e));
+          away = λ i g f b z. refl;
+          other = λ r′ c′ x y f g b. refl;
         }
 
     put-done : (j : ℕ) (w : Wrench) (ws : List Float) → j < p .n → Holds p arm (p .n) c ws → Put j w ws (putHere p (m .kinds) (m .axes) column j w ws)
@@ -178,35 +175,22 @@ module _ (p : Plan) (m : Model) (q : List Float) (c : ℕ → Link) (column : �
         carried : w′ ≡ wrenchToParent (arm .frame j) w
         carried = ap (λ (f : Frame). wrenchToParent f w) (put .holds .frames j h)
 
-        step : (i : ℕ) (d d′ : Float) → (j ≡ i → d′ ≡ entryOf (arm .motion i) w) → ((j ≡ i → ⊥) → d′ ≡ d)
-            → cond (eqb (arm .parent j) 0) d′ (along arm d′ k (arm .parent j - 1) i (wrenchToParent (arm .frame j) w)) ≡ along arm d (suc k) j i w
-        step i d d′ = along-step arm (λ j g. fit .good .tree .below j (omega arith)) i d d′ k j w (omega arith)
+        step : (i : ℕ) → i < p .n → Active (m .kinds) i → (b : Bool)
+            → cond (eqb (arm .parent j) 0) (getD ws′ (spot b i) nan) (along arm (getD ws′ (spot b i) nan) k (arm .parent j - 1) i (wrenchToParent (arm .frame j) w)) ≡ along arm (getD ws (spot b i) nan) (suc k) j i w
+        step i g f b = along-step arm (λ j g. fit .good .tree .below j (omega arith)) i (getD ws (spot b i) nan) (getD ws′ (spot b i) nan) k j w (omega arith) (put .here i g f b) (put .away i g f b)
 
-        go : (b : Bool) → eqb (arm .parent j) 0 ≡ b → Walked (suc k) j w ws (cond (eqb (arm .parent j) 0) (w′, ws′) (climb (arm .parent) act k (arm .parent j - 1) (w′, ws′)))
-        go true e = rw e (record {
-          holds = put .holds;
-          up = carried ∙ rw e;
-          met = λ i g f. rw e at (step i (getD ws (placeOf p (rowFor p (m .kinds) i) column) nan) (getD ws′ (placeOf p (rowFor p (m .kinds) i) column) nan) (put .here i g f) (put .away i g f));
-          mirrored = λ i g f. rw e at (step i (getD ws (placeOf p column (rowFor p (m .kinds) i)) nan) (getD ws′ (placeOf p column (rowFor p (m .kinds) i)) nan) (put .here′ i g f) (put .away′ i g f));
-          other = put .other;
-        })
+        go : (x : Bool) → eqb (arm .parent j) 0 ≡ x → Walked (suc k) j w ws (cond (eqb (arm .parent j) 0) (w′, ws′) (climb (arm .parent) act k (arm .parent j - 1) (w′, ws′)))
+        go true e = rw e (record { holds = put .holds; up = carried ∙ rw e; met = λ i g f b. rw e at (step i g f b); other = put .other })
         go false e =
             let r = more w′ ws′ (eqb-false (arm .parent j) 0 e) (put .holds) in
             rw e (record {
               holds = r .holds;
               up = r .up ∙ ap (toRoot arm k (arm .parent j - 1)) carried ∙ rw e;
-              met = λ i g f.
-                  let d′ = getD ws′ (placeOf p (rowFor p (m .kinds) i) column) nan in
-                  r .met i g f ∙ ap (along arm d′ k (arm .parent j - 1) i) carried
-                  ∙ rw e at (step i (getD ws (placeOf p (rowFor p (m .kinds) i) column) nan) d′ (put .here i g f) (put .away i g f));
-              mirrored = λ i g f.
-                  let d′ = getD ws′ (placeOf p column (rowFor p (m .kinds) i)) nan in
-                  r .mirrored i g f ∙ ap (along arm d′ k (arm .parent j - 1) i) carried
-                  ∙ rw e at (step i (getD ws (placeOf p column (rowFor p (m .kinds) i)) nan) d′ (put .here′ i g f) (put .away′ i g f));
-              other = λ row column′ x y f g. r .other row column′ x y f g ∙ put .other row column′ x y f g;
+              met = λ i g f b. r .met i g f b ∙ ap (along arm (getD ws′ (spot b i) nan) k (arm .parent j - 1) i) carried ∙ rw e at (step i g f b);
+              other = λ r′ c′ x y f g b. r .other r′ c′ x y f g b ∙ put .other r′ c′ x y f g b;
             })
 
     pub walk-done : (k j : ℕ) (w : Wrench) (ws : List Float) → j < p .n → Holds p arm (p .n) c ws → Walked k j w ws (climb (arm .parent) act k j (w, ws))
     unfolding climb toRoot along
-    walk-done zero j w ws h s = record { holds = s; up = refl; met = λ i g f. refl; mirrored = λ i g f. refl; other = λ row column′ x y f g. refl }
+    walk-done zero j w ws h s = record { holds = s; up = refl; met = λ i g f b. refl; other = λ r′ c′ x y f g b. refl }
     walk-done (suc k) j w ws h s = walk-by k j w ws h s (λ w′ ws′ z s′. walk-done k (arm .parent j - 1) w′ ws′ (omega (arith, fit .good .tree .below j h)) s′)

@@ -3,13 +3,13 @@ use mathlib.Core.List.{List}
 use mathlib.Core.Path.{_≡_, refl, _∙_}
 use Prim.Native.Nat.{ℕ, zero, suc, _+_, _-_}
 use lib.Dec.{eqb, ltb}
-use lib.ListN.{length, length-set}
+use lib.ListN.{length}
 use lib.Ieee.{Float}
 use Rattle.numbers.specs.declared.quaternion.Quaternion.{Quaternion}
 use Rattle.refusals.specs.declared.Place.{Place}
 use Rattle.refusals.specs.declared.Place.the-variants.{At, Nothing}
 use Rattle.spatial.specs.declared.wrench.Wrench.{Wrench}
-use Rattle.slots.proofs.Lengths.{length-putVec3, length-putMat3, length-putWrench, length-putFrame, length-zeroTo}
+use Rattle.slots.proofs.Lengths.{length-putWrench, length-putFrame, length-zeroTo}
 use Rattle.arm.specs.Model.{parentOf}
 use Rattle.arm.specs.Topology.{activeJoint}
 use Rattle.arm.specs.declared.joint.Motion.{Motion}
@@ -18,19 +18,12 @@ use Rattle.arm.specs.declared.model.Link.{Link}
 use Rattle.arm.specs.declared.model.Model.{Model}
 use Rattle.calls.specs.declared.position.Outcome.{Outcome}
 use Rattle.calls.proofs.Kept.{either-way}
-use Rattle.composites.specs.Composite.{putComposite}
 use Rattle.matrix_visits.specs.Kernel.{begunOf, frameVisit, addInto, compositeVisit, baseLoadsTo, rootColumns, rootVisit, jointVisit, visitOf}
-use Rattle.composites.specs.Plan.{compositePlace, rootPlace, putPair, putSix, addRotor}
+use Rattle.composites.specs.Plan.{compositePlace, rootPlace, putSix}
+use Rattle.composites.proofs.Blocks.{length-putComposite}
+use Rattle.composites.proofs.Entries.{length-putPair, length-addRotor}
 use Rattle.matrix_columns.specs.Walk.{putEntry, walkStep, climb, walkOf, baseRows, columnVisit, columnFound}
 use Rattle.calls.specs.declared.plan.Plan.{Plan}
-
-length-putComposite : (s : List Float) (at : ℕ) (c : Link) → length (putComposite s at c) ≡ length s
-unfolding putComposite
-length-putComposite s at c = simp (length-putMat3, length-putVec3, length-set)
-
-length-putPair : (p : Plan) (row column : ℕ) (entry : Float) (ws : List Float) → length (putPair p row column entry ws) ≡ length ws
-unfolding putPair
-length-putPair p row column entry ws = simp length-set
 
 length-putSix : (p : Plan) (column : ℕ) (w : Wrench) (ws : List Float) → length (putSix p column w ws) ≡ length ws
 unfolding putSix
@@ -69,10 +62,6 @@ length-walk : (p : Plan) (parents kinds : List ℕ) (axes : List Float) (column 
 unfolding walkOf walkStep
 length-walk p parents kinds axes column j s =
     climb-keeps size (parentOf parents) (walkStep p kinds axes column) (λ i t. length-putEntry p _ _ column _ (t .1)) (suc j) j s
-
-length-addRotor : (p : Plan) (row : ℕ) (rotor : Float) (ws : List Float) → length (addRotor p row rotor ws) ≡ length ws
-unfolding addRotor
-length-addRotor p row rotor ws = simp length-set
 
 length-found : (p : Plan) (r : Quaternion) (parents kinds : List ℕ) (axes rotors : List Float) (i : Place) (ws : List Float) → length (columnFound p r parents kinds axes rotors i ws) ≡ length ws
 unfolding columnFound columnVisit baseRows

@@ -1,3 +1,5 @@
+pub mod Stages
+pub mod Filled
 pub mod Kept
 pub mod Places
 pub mod Rotors

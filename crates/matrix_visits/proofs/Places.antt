@@ -15,9 +15,9 @@ use Rattle.refusals.specs.declared.Place.the-variants.{At, Nothing}
 use Rattle.spatial.specs.Wrench.{rotatedOf}
 use Rattle.spatial.specs.declared.wrench.Wrench.{Wrench}
 use Rattle.slots.specs.Parts.{Part, part, Sets}
-use Rattle.slots.specs.Slots.{putVec3, vec3At, zeroTo}
+use Rattle.slots.specs.Slots.{vec3At, zeroTo}
 use Rattle.slots.proofs.Sets.{none, here, there, then, row, way}
-use Rattle.slots.proofs.Blocks.{Outside, wider, both, set-outside, putVec3-outside, putMat3-outside, putFrame-outside, putWrench-outside, zeroTo-outside}
+use Rattle.slots.proofs.Blocks.{Outside, set-outside, putFrame-outside, putWrench-outside, zeroTo-outside}
 use Rattle.arm.specs.Joint.{isFixed, motionBy, withRotor}
 use Rattle.arm.specs.Model.{parentOf, kindOf, motionOf, rotorOf, linkOf}
 use Rattle.arm.specs.Topology.{activesOf, activeJoint}
@@ -26,19 +26,12 @@ use Rattle.arm.specs.declared.model.Link.{Link}
 use Rattle.arm.specs.declared.model.Model.{Model}
 use Rattle.calls.specs.declared.plan.Plan.{Plan}
 use Rattle.calls.specs.declared.position.Outcome.{Outcome}
-use Rattle.composites.specs.Composite.{compositeAt, putComposite, forceOf, entryOf}
+use Rattle.composites.specs.Composite.{compositeAt, forceOf, entryOf}
 use Rattle.composites.specs.Plan.{compositePlace, rootPlace, matrixPlace, placeOf, putPair, putSix, addRotor}
+use Rattle.composites.proofs.Blocks.{putComposite-outside}
 use Rattle.matrix_columns.specs.Walk.{putEntry, walkStep, climb, walkOf, baseRows, columnVisit, columnFound}
 use Rattle.matrix_visits.specs.Kernel.{begunOf, frameVisit, addInto, compositeVisit, baseLoadsTo, rootColumns, rootVisit, jointVisit, visitOf}
 use Rattle.matrix_visits.specs.Places.{rootPart, begunParts, frameParts, compositeParts, pairParts, entryParts, pathParts, rowsTo, columnParts, columnsTo, baseParts, jointParts, setBy}
-
-pub putComposite-outside : (s : List Float) (at : ℕ) (c : Link) → Outside at 13 s (putComposite s at c)
-unfolding putComposite
-putComposite-outside s at c =
-    let s1 = set s at (c .mass) in
-    let s2 = putVec3 s1 (at + 1) (c .moment) in
-    both (wider (set-outside s at (c .mass)) (omega arith) (omega arith))
-    (both (wider (putVec3-outside s1 (at + 1) (c .moment)) (omega arith) (omega arith)) (wider (putMat3-outside s2 (at + 4) (c .inertia)) (omega arith) (omega arith)))
 
 into : (at j : ℕ) (ws : List Float) → Outside at 13 ws (addInto at j ws)
 unfolding addInto

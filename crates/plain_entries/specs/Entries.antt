@@ -2,9 +2,11 @@
 use mathlib.Core.Bool.{cond}
 use Prim.Native.Nat.{ℕ, zero, suc, _-_}
 use lib.Dec.{eqb}
-use lib.Ieee.{Float}
+use lib.ListN.{getD}
+use lib.Ieee.{Float, nan}
 use Rattle.numbers.specs.Double.{0·0}
 use Rattle.spatial.specs.Operators.{wrenchToParent}
+use Rattle.spatial.specs.Wrench.{vectorOf}
 use Rattle.spatial.specs.declared.wrench.Wrench.{Wrench}
 use Rattle.arm.specs.Joint.{withRotor}
 use Rattle.composites.specs.Composite.{forceOf, entryOf}
@@ -40,3 +42,7 @@ toRoot a (suc k) j w =
 -- what answers joint J's motion, at the root
 abbrev pub rootAnswer : Arm → ℕ → Wrench
 rootAnswer a J = toRoot a (suc J) J (answerOf a J)
+
+-- number k of a wrench: torque, then force
+unfoldable pub numberOf : Wrench → ℕ → Float
+numberOf w k = getD (vectorOf w) k nan

@@ -3,8 +3,8 @@ use mathlib.Core.Bool.{Bool, cond}
 use mathlib.Core.List.{List}
 use Prim.Native.Nat.{ℕ, _-_, _*_, _/_, _%_}
 use lib.Dec.{ltb}
-use lib.ListN.{length, getD}
-use lib.Ieee.{Float, nan}
+use lib.ListN.{length}
+use lib.Ieee.{Float}
 use Rattle.numbers.specs.Double.{allFinite}
 use Rattle.numbers.specs.Table.{tab}
 use Rattle.numbers.specs.declared.quaternion.Quaternion.{Quaternion}
@@ -14,8 +14,7 @@ use Rattle.refusals.specs.declared.Place.the-variants.{At, Nothing}
 use Rattle.refusals.specs.declared.Verdict.{Verdict}
 use Rattle.refusals.specs.declared.Verdict.the-variants.{Fine}
 use Rattle.refusals.specs.declared.Verdict.the-variants as verdict
-use Rattle.spatial.specs.Wrench.{rotatedOf, vectorOf}
-use Rattle.spatial.specs.declared.wrench.Wrench.{Wrench}
+use Rattle.spatial.specs.Wrench.{rotatedOf}
 use Rattle.arm.specs.Model.{wildOf}
 use Rattle.arm.specs.Topology.{activeJoint}
 use Rattle.arm.specs.declared.model.Model.{Model}
@@ -25,7 +24,7 @@ use Rattle.calls.specs.declared.position.Outcome.{Outcome}
 use Rattle.calls.specs.declared.position.Outcome.the-variants.{Accepted, Refused}
 use Rattle.plain_entries.specs.Arm.{Arm, armOf}
 use Rattle.plain_entries.specs.Gather.{compositeOf}
-use Rattle.plain_entries.specs.Entries.{entryBetween, rootAnswer}
+use Rattle.plain_entries.specs.Entries.{entryBetween, rootAnswer, numberOf}
 use Rattle.matrix_visits.specs.Kernel.{baseLoad}
 use Rattle.mass_matrix.specs.Checks.{tameVerdict}
 use Rattle.mass_matrix.specs.MassMatrix.{floats, rotationOf}
@@ -47,10 +46,6 @@ jointEntry a kinds row column =
     let I = jointWith kinds (a .n) row in
     let J = jointWith kinds (a .n) column in
     cond (ltb column row) (entryBetween a I J) (entryBetween a J I)
-
--- number k of a wrench in the world: torque, then force
-abbrev pub numberOf : Wrench → ℕ → Float
-numberOf w k = getD (vectorOf w) k nan
 
 -- between the base's direction k and active number c: what answers the joint's motion, at the root
 unfoldable pub baseEntry : Arm → Quaternion → List ℕ → ℕ → ℕ → Float

@@ -17,7 +17,7 @@ use Rattle.calls.specs.Checks.{valuesVerdict}
 use Rattle.calls.specs.Plan.{planBy}
 use Rattle.calls.specs.declared.plan.Plan.{Plan}
 use Rattle.composites.specs.Plan.{matrixPlace}
-use Rattle.mass_matrix.specs.Checks.{restVerdict, inputsVerdict}
+use Rattle.mass_matrix.specs.Checks.{restVerdict, tameVerdict, inputsVerdict}
 
 module _ (floating : Bool) (r : Quaternion) (n : ℕ) (parents kinds : List ℕ) (q : List Float) (ws out : ℕ) (wild : Bool) (e9 : wild ≡ wildOf n parents kinds) where
   pub refuses-9 : wild ≡ true → Refused 9 Nothing ≡ inputsVerdict floating r n parents kinds q ws out
@@ -29,11 +29,16 @@ module _ (floating : Bool) (r : Quaternion) (n : ℕ) (parents kinds : List ℕ)
     unfolding inputsVerdict plainOf orElse
     refuses-10 h = rw (← e9, tame, ← ea, ← ep, lt-ltb _ _ h)
 
-    module _ (v : Verdict) (room : matrixPlace n + p .side * p .side ≤ ws) (ev : v ≡ valuesVerdict 11 12 kinds n q) where
-      pub refuses-values : (number : ℕ) (i : Place) → v ≡ Refused number i → v ≡ inputsVerdict floating r n parents kinds q ws out
-      unfolding inputsVerdict plainOf orElse
-      refuses-values number i h = rw (← e9, tame, ← ea, ← ep, le-ltb _ _ room, ← ev, h)
+    pub goes-on : (u : Verdict) → matrixPlace n + p .side * p .side ≤ ws → u ≡ tameVerdict n (p .side) floating r kinds q out → u ≡ inputsVerdict floating r n parents kinds q ws out
+    unfolding inputsVerdict plainOf orElse
+    goes-on u room eu = rw (← e9, tame, ← ea, ← ep, le-ltb _ _ room) eu
 
-      pub goes-on : (u : Verdict) → v ≡ Fine → u ≡ restVerdict n (p .side) floating r kinds q out → u ≡ inputsVerdict floating r n parents kinds q ws out
-      unfolding inputsVerdict plainOf orElse
-      goes-on u h eu = rw (← e9, tame, ← ea, ← ep, le-ltb _ _ room, ← ev, h) eu
+-- 11 and 12, and the rest
+module _ (floating : Bool) (r : Quaternion) (n side : ℕ) (kinds : List ℕ) (q : List Float) (out : ℕ) (v : Verdict) (ev : v ≡ valuesVerdict 11 12 kinds n q) where
+  pub refuses-values : (number : ℕ) (i : Place) → v ≡ Refused number i → v ≡ tameVerdict n side floating r kinds q out
+  unfolding tameVerdict orElse
+  refuses-values number i h = rw (← ev, h)
+
+  pub goes-past : (u : Verdict) → v ≡ Fine → u ≡ restVerdict n side floating r kinds q out → u ≡ tameVerdict n side floating r kinds q out
+  unfolding tameVerdict orElse
+  goes-past u h eu = rw (← ev, h) eu

@@ -1,10 +1,8 @@
-use mathlib.Core.Path.{sym, _∙_}
 use native.Mathlib.Omega.{arith}
 use Rattle.arm.proofs.topology.Counts.{actives-le}
 use Rattle.composites.proofs.plan.Squares.{small-square}
 use borrow.Author.Needs.{needs}
-use Rattle.calls.proofs.Passed.{counted}
-use Rattle.mass_matrix.proofs.checks.Ways.{refuses-9, refuses-10, refuses-values, goes-on}
+use Rattle.mass_matrix.proofs.checks.Ways.{refuses-9, refuses-10, goes-on}
 use Rattle.mass_matrix.proofs.checks.judged.Statement.{statement}
 use Rattle.mass_matrix.proofs.checks.judged.Tie as tie
 
@@ -35,23 +33,11 @@ add-if2-2 c = let b2 = c .before .before in let b3 = b2 .before in let g = b3 .w
 returns-2 : tie.Need-returns-2
 returns-2 c = let b1 = c .before in let b2 = b1 .before in let b3 = b2 .before in let b4 = b3 .before in let b6 = b4 .before .before in refuses-10 (b6 .args .floating) (b6 .args .r) (b6 .args .n) (b6 .args .parents .now) (b6 .args .kinds .now) (b6 .args .q .now) (b6 .args .ws) (b6 .args .out) _ (b4 .wild .ensures .0) _ _ (b3 .if1 .left) (b2 .number-at .ensures) (b1 .planned .ensures .0) (c .if2 .taken)
 
-check-values-requires : tie.Need-check-values-requires
-check-values-requires c κs = let b2 = c .before .before in let b3 = b2 .before in let b4 = b3 .before in let b6 = b4 .before .before in let g = b4 .wild .ensures .1 (b3 .if1 .left) in (b6 .pre, g .tree .few, b2 .number-at .ensures)
-
-enum-told : tie.Need-enum-told
-enum-told c = search needs
-
-enum-told-2 : tie.Need-enum-told-2
-enum-told-2 c = search needs
+judged-tame-requires : tie.Need-judged-tame-requires
+judged-tame-requires c κs = let b1 = c .before in let b2 = b1 .before in let b3 = b2 .before in let b4 = b3 .before in let b6 = b4 .before .before in let g = b4 .wild .ensures .1 (b3 .if1 .left) in (b6 .pre, g .tree .few, b1 .planned .ensures .1, b2 .number-at .ensures)
 
 returns-3 : tie.Need-returns-3
-returns-3 c = let b2 = c .before .before in let b3 = b2 .before in let b4 = b3 .before in let b5 = b4 .before in let b6 = b5 .before in let b7 = b6 .before in let b9 = b7 .before .before in refuses-values (b9 .args .floating) (b9 .args .r) (b9 .args .n) (b9 .args .parents .now) (b9 .args .kinds .now) (b9 .args .q .now) (b9 .args .ws) (b9 .args .out) _ (b7 .wild .ensures .0) _ _ (b6 .if1 .left) (b5 .number-at .ensures) (b4 .planned .ensures .0) _ (b3 .if2 .left) (b2 .check-values .ensures) _ _ (c .enum-told2 .given .1)
-
-judged-rest-requires : tie.Need-judged-rest-requires
-judged-rest-requires c κs = let b2 = c .before .before in let b4 = b2 .before .before in let b6 = b4 .before .before in let b7 = b6 .before in let b9 = b7 .before .before in let g = b7 .wild .ensures .1 (b6 .if1 .left) in (b9 .pre, g .tree .few, b4 .planned .ensures .1, counted 11 12 _ _ _ (sym (b2 .check-values .ensures) ∙ c .enum-told .given .1))
-
-returns-4 : tie.Need-returns-4
-returns-4 c = let b1 = c .before in let b3 = b1 .before .before in let b4 = b3 .before in let b5 = b4 .before in let b6 = b5 .before in let b7 = b6 .before in let b8 = b7 .before in let b10 = b8 .before .before in goes-on (b10 .args .floating) (b10 .args .r) (b10 .args .n) (b10 .args .parents .now) (b10 .args .kinds .now) (b10 .args .q .now) (b10 .args .ws) (b10 .args .out) _ (b8 .wild .ensures .0) _ _ (b7 .if1 .left) (b6 .number-at .ensures) (b5 .planned .ensures .0) _ (b4 .if2 .left) (b3 .check-values .ensures) _ (b1 .enum-told .given .1) (c .judged-rest .ensures)
+returns-3 c = let b1 = c .before in let b2 = b1 .before in let b3 = b2 .before in let b4 = b3 .before in let b5 = b4 .before in let b7 = b5 .before .before in goes-on (b7 .args .floating) (b7 .args .r) (b7 .args .n) (b7 .args .parents .now) (b7 .args .kinds .now) (b7 .args .q .now) (b7 .args .ws) (b7 .args .out) _ (b5 .wild .ensures .0) _ _ (b4 .if1 .left) (b3 .number-at .ensures) (b2 .planned .ensures .0) _ (b1 .if2 .left) (c .judged-tame .ensures)
 
 pub judged-spec : {M : Type 1} → statement M
 judged-spec =
@@ -66,9 +52,5 @@ judged-spec =
     mul-if2-2
     add-if2-2
     returns-2
-    check-values-requires
-    enum-told
-    enum-told-2
-    returns-3
-    judged-rest-requires
-    returns-4)
+    judged-tame-requires
+    returns-3)
