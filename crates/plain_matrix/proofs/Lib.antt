@@ -1,0 +1,5 @@
+pub mod Listed
+pub mod Roots
+pub mod Equal
+pub mod Verdicts
+pub mod Called
