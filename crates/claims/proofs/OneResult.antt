@@ -5,6 +5,7 @@ use lib.Ieee.{Float}
 use denote.Ref.{now}
 use Rattle.calls.specs.Position.{Result}
 use Rattle.calls.specs.declared.position.Answer.{Answer}
+use Rattle.calls.specs.declared.position.Outcome.{Outcome}
 use Rattle.square_root.proofs.sqrt.Reads as sqrt
 use Rattle.half_turn.proofs.half_turn.Reads as half-turn
 use Rattle.builder.proofs.build.build.Reads as build
@@ -12,6 +13,7 @@ use Rattle.mass_matrix.proofs.column.column.Reads as column
 use Rattle.dynamics.proofs.start.Reads as start
 use Rattle.dynamics.proofs.portion.Reads as portion
 use Rattle.dynamics.proofs.whole.Reads as whole
+use Rattle.plain_matrix.proofs.plain_matrix.Reads as plain-matrix
 use Rattle.claims.specs.OneResult.{OneResult}
 
 -- what equals one thing is one
@@ -45,3 +47,7 @@ portion-one κs a r s e f = one-result
 
 pub whole-one : OneResult {S = Result} whole.Post (λ κs r e. (r, now (e .1 .1 .1 .1 .1 .1 .1 .1 .1 .1 .1 .1 .1 .0), now (e .1 .1 .1 .1 .1 .1 .1 .1 .1 .1 .1 .1 .1 .1 .0)))
 whole-one κs a r s e f = one-result
+
+-- the outcome and the output of the plain matrix
+pub plain-matrix-one : OneResult {S = Outcome × List Float} plain-matrix.Post (λ κs r e. (r, now (e .1 .1 .1 .1 .1 .1 .1 .1 .1 .0)))
+plain-matrix-one κs a r s e f = one-result

@@ -3,3 +3,4 @@ pub mod Cases
 pub mod Settled
 pub mod Rotorless
 pub mod Rotors
+pub mod Engines

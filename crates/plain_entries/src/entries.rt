@@ -215,7 +215,7 @@ pub fn between<'a>(
         i,
         w,
     );
-    if j == i {
+    if i == j {
         return joint::with_rotor(rotors[j], x);
     }
     x

@@ -1,4 +1,4 @@
-use mathlib.Core.Path.{_∙_}
+use mathlib.Core.Path.{sym, _∙_}
 use borrow.Author.Needs.{needs}
 use Rattle.plain_entries.proofs.Ups.{own, not-own}
 use Rattle.plain_entries.proofs.entries.between.Statement.{statement}
@@ -23,10 +23,10 @@ returns : tie.Need-returns
 returns c =
     let b2 = c .before .before in
     let b3 = b2 .before in
-    rw (← b3 .before .answer .ensures, ← b3 .up-to .ensures) (c .with-rotor .ensures ∙ own _ _ _ _ (b2 .if1 .taken))
+    rw (← b3 .before .answer .ensures, ← b3 .up-to .ensures) (c .with-rotor .ensures ∙ own _ _ _ _ (sym (b2 .if1 .taken)))
 
 returns-2 : tie.Need-returns-2
-returns-2 c = let b1 = c .before in rw (← b1 .before .answer .ensures, ← b1 .up-to .ensures) (not-own _ _ _ _ (c .if1 .left))
+returns-2 c = let b1 = c .before in rw (← b1 .before .answer .ensures, ← b1 .up-to .ensures) (not-own _ _ _ _ (λ e. c .if1 .left (sym e)))
 
 pub between-spec : {M : Type 1} → statement M
 between-spec =
