@@ -4,10 +4,7 @@ use mathlib.Core.List.{List}
 use Prim.Native.Nat.{ℕ}
 use lib.Dec.{eqb, ltb}
 use lib.ListN.{length}
-use lib.Ieee.{Float}
 use Rattle.words.specs.Read.{Reader, give, fail, _>>=_, number}
-use Rattle.numbers.specs.Double.{1·0}
-use Rattle.numbers.specs.Table.{tab}
 use Rattle.arm.specs.declared.model.Model.{Model}
 use Rattle.calls.specs.Position.{Work}
 use Rattle.calculations.specs.declared.make.How.{How}
@@ -15,12 +12,9 @@ use Rattle.calculations.specs.declared.make.How.the-variants.{Times, From}
 use Rattle.readings.specs.declared.read.Kind.{Kind}
 use Rattle.dynamics.specs.Calculation.{workOf}
 use Rattle.calculations.specs.Make.{Made, madeOf}
+use Rattle.readings.specs.Lent.{ones}
 use Rattle.readings.specs.Read.{kind, calculation, inputs, lengths, position}
 use Rattle.writings.specs.Write.{madeText}
-
--- a lent buffer holds 1.0 before the call
-unfoldable pub ones : ℕ → List Float
-ones n = tab (λ i. 1·0) n
 
 abbrev pub madeLine : Made → List ℕ
 madeLine d = madeText (d .1 .0 .outcome) (d .0) (d .1 .1) (d .1 .2)

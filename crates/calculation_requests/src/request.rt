@@ -5,15 +5,18 @@ ghost use Prim.Native.Nat.{_+_, _≤_};
 ghost use lib.ListN.{length, take};
 ghost use Rattle.words.specs.Read.{wordsAt};
 ghost use Rattle.replies.specs.Replies.{room, textOf};
+ghost use Rattle.readings.specs.Lent.{ones};
 ghost use Rattle.forward_visits.specs.Inputs.{inputsBy};
 ghost use Rattle.dynamics.specs.Calculation.{workOf};
 ghost use Rattle.calculations.specs.Make.{madeOf, madeBy};
-ghost use Rattle.calculation_requests.specs.Request.{ones, madeLine, idleBy, calculateRequest, repeatRequest, resumeRequest};
+ghost use Rattle.calculation_requests.specs.Request.{madeLine, idleBy, calculateRequest, repeatRequest, resumeRequest};
 use arm::model::Model;
 use calculations::make::How;
 use calculations::make::Last;
 use calculations::make::make;
 use dynamics::calculation::Calculation;
+use readings::lent::fill;
+use readings::lent::output_buffer;
 use readings::read::Kind;
 use readings::read::LastLent;
 use readings::read::NextCalculation;
@@ -32,23 +35,6 @@ use words::read::Cursor;
 use words::read::Next;
 use words::read::next_number;
 use writings::write::put_made;
-
-fn output_buffer() -> [f64; 2048]
-    ensures { λ r. ⌜ 2048 ≡ length r ⌝ }
-{
-    [0.0; 2048]
-}
-
-// Each lent number holds 1.0 before the call.
-fn fill(s: &mut [f64])
-    ensures { λ _. ⌜ now (s .exit) ≡ ones (length (now (s .entry))) ⌝ }
-{
-    let mut i: usize = 0;
-    while i < s.len() {
-        s[i] = 1.0;
-        i += 1;
-    }
-}
 
 // The calculation on a model: its lists are lent.
 fn made<'a>(

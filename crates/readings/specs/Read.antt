@@ -1,5 +1,5 @@
 -- What a calculation's request hands in, as readers of the words of a line. Assumes nothing.
-use mathlib.Core.Bool.{Bool, cond, _||_}
+use mathlib.Core.Bool.{Bool, true, false, cond, _||_}
 use mathlib.Core.List.{List, []}
 use mathlib.Core.Option.{Option, none, some}
 use Prim.Native.Nat.{ℕ, _≤_}
@@ -13,6 +13,7 @@ use Rattle.words.specs.Write.{bytes}
 use Rattle.slots.specs.Slots.{vec3At, twistAt}
 use Rattle.numbers.specs.declared.quaternion.Quaternion.{Quaternion}
 use Rattle.calls.specs.declared.position.Position.{Position}
+use Rattle.mass_matrix.specs.declared.mass_matrix.Mode.{Mode}
 use Rattle.mass_matrix.specs.declared.mass_matrix.Mode.the-variants as matrix
 use Rattle.forward_dynamics.specs.declared.forward_dynamics.Mode.the-variants as forward
 use Rattle.forward_visits.specs.Inputs.{Inputs, inputsBy}
@@ -28,6 +29,8 @@ use Rattle.readings.specs.declared.read.NextPosition.{NextPosition}
 use Rattle.readings.specs.declared.read.NextPosition.the-variants as position·
 use Rattle.readings.specs.declared.read.NextKind.{NextKind}
 use Rattle.readings.specs.declared.read.NextKind.the-variants as kind·
+use Rattle.readings.specs.declared.read.NextMode.{NextMode}
+use Rattle.readings.specs.declared.read.NextMode.the-variants as mode·
 use Rattle.readings.specs.declared.read.NextCalculation.{NextCalculation}
 use Rattle.readings.specs.declared.read.NextCalculation.the-variants as calculation·
 use Rattle.readings.specs.declared.read.Sizes.{Sizes}
@@ -67,9 +70,21 @@ rootNumbers FloatingForward = 10
 abbrev pub rotationFrom : List Float → Quaternion
 rotationFrom l = record { w = getD l 0 nan; u = vec3At l 1 }
 
+-- the root of a matrix: turned by R where it floats
+abbrev pub modeNumbers : Bool → ℕ
+modeNumbers floating = cond floating 4 0
+
+abbrev pub modeBy : Bool → List Float → Mode
+modeBy floating l = cond floating (matrix.Floating (rotationFrom l)) matrix.Fixed
+
+unfoldable pub mode : Bool → Reader Mode
+mode floating = do
+  l ← items (ofBits binary64) (modeNumbers floating)
+  give (modeBy floating l)
+
 unfoldable pub calculationBy : Kind → List Float → Calculation
-calculationBy Matrix l = of.Matrix matrix.Fixed
-calculationBy FloatingMatrix l = of.Matrix (matrix.Floating (rotationFrom l))
+calculationBy Matrix l = of.Matrix (modeBy false l)
+calculationBy FloatingMatrix l = of.Matrix (modeBy true l)
 calculationBy Forward l = of.Forward (forward.Fixed (rotationFrom l))
 calculationBy FloatingForward l = of.Forward (forward.Floating (rotationFrom l) (twistAt l 4))
 
@@ -141,6 +156,10 @@ positionOf position·.No = none
 abbrev pub kindOf : NextKind → Option (Kind × Cursor)
 kindOf (kind·.Is k c) = some (k, c)
 kindOf kind·.No = none
+
+abbrev pub modeOf : NextMode → Option (Mode × Cursor)
+modeOf (mode·.Is m c) = some (m, c)
+modeOf mode·.No = none
 
 abbrev pub calculationOf : NextCalculation → Option (Calculation × Cursor)
 calculationOf (calculation·.Is k c) = some (k, c)

@@ -1,2 +1,3 @@
-// What the requests that make a calculation hand in.
+// What the requests that make a calculation hand in, and the buffers that they are lent.
+pub mod lent;
 pub mod read;

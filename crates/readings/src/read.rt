@@ -3,7 +3,7 @@ ghost use mathlib.Core.Path.{_≡_};
 ghost use Prim.Native.Nat.{_≤_};
 ghost use lib.ListN.{length};
 ghost use Rattle.words.specs.Read.{wordsAt, ReadBy};
-ghost use Rattle.readings.specs.Read.{kindNamed, kind, rootNumbers, rotationFrom, calculationBy, calculation, inputs, lengths, flag, position, flagOf, positionOf, kindOf, calculationOf, InputsBy, RestRead, lengthsRead, LengthsIn};
+ghost use Rattle.readings.specs.Read.{kindNamed, kind, rootNumbers, rotationFrom, modeNumbers, modeBy, calculationBy, mode, calculation, inputs, lengths, flag, position, flagOf, positionOf, kindOf, modeOf, calculationOf, InputsBy, RestRead, lengthsRead, LengthsIn};
 use calls::position::Position;
 use dynamics::calculation::Calculation;
 use forward_dynamics::forward_dynamics as forward;
@@ -46,6 +46,11 @@ pub enum NextPosition {
 
 pub enum NextKind {
     Is(Kind, Cursor),
+    No,
+}
+
+pub enum NextMode {
+    Is(matrix::Mode, Cursor),
     No,
 }
 
@@ -181,13 +186,41 @@ fn rotation(root: &[f64]) -> Quaternion
     Quaternion { w, u }
 }
 
+fn mode_numbers(floating: bool) -> u64
+    ensures { λ r. ⌜ (r ≡ modeNumbers floating) × (r ≤ 4) ⌝ }
+{
+    if floating { 4 } else { 0 }
+}
+
+fn mode_by(floating: bool, root: &[f64]) -> matrix::Mode
+    requires { ⌜ modeNumbers floating ≤ length (now root) ⌝ }
+    ensures { λ r. ⌜ r ≡ modeBy floating (now (root .entry)) ⌝ }
+{
+    if floating {
+        return matrix::Mode::Floating(rotation(root));
+    }
+    matrix::Mode::Fixed
+}
+
+// R, where the root floats.
+pub fn next_mode(s: &[u8], c: Cursor, floating: bool) -> NextMode
+    requires { ⌜ c .at ≤ length (now s) ⌝ }
+    ensures { λ r. ⌜ ReadBy (mode floating) (now (s .entry)) c (modeOf r) ⌝ }
+{
+    let mut root = [0.0; 4];
+    let Listed::Got(n, d) = fill_doubles(s, c, mode_numbers(floating), &mut root) else {
+        return NextMode::No;
+    };
+    NextMode::Is(mode_by(floating, &root[..n]), d)
+}
+
 fn calculation_by(k: Kind, root: &[f64]) -> Calculation
     requires { ⌜ rootNumbers k ≤ length (now root) ⌝ }
     ensures { λ r. ⌜ r ≡ calculationBy k (now (root .entry)) ⌝ }
 {
     match k {
-        Kind::Matrix => Calculation::Matrix(matrix::Mode::Fixed),
-        Kind::FloatingMatrix => Calculation::Matrix(matrix::Mode::Floating(rotation(root))),
+        Kind::Matrix => Calculation::Matrix(mode_by(false, root)),
+        Kind::FloatingMatrix => Calculation::Matrix(mode_by(true, root)),
         Kind::Forward => Calculation::Forward(forward::Mode::Fixed(rotation(root))),
         Kind::FloatingForward => {
             let r = rotation(root);

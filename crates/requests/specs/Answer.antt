@@ -1,6 +1,6 @@
 -- WHAT A LINE IS ANSWERED, and the model that is current from then on. Assumes nothing.
 use Prim.Native.Nat.{ℕ}
-use mathlib.Core.Bool.{cond}
+use mathlib.Core.Bool.{true, false, cond}
 use mathlib.Core.List.{List, [], _∷_}
 use lib.Dec.{eqb}
 use Rattle.words.specs.Read.{wordsOf, sameOf, Reader, give, fail, _>>=_, word}
@@ -9,11 +9,12 @@ use Rattle.arm.specs.declared.model.Model.{Model as Arm}
 use Rattle.writings.specs.Column.{columnRequest}
 use Rattle.readings.specs.Read.{kindNamed}
 use Rattle.calculation_requests.specs.Request.{calculateRequest, repeatRequest, resumeRequest}
+use Rattle.plain_requests.specs.Request.{plainRequest}
 use Rattle.calculations.specs.declared.make.How.the-variants.{Times}
 use Rattle.readings.specs.declared.read.Named.{Named}
 use Rattle.readings.specs.declared.read.Named.the-variants.{Is, No}
 use Rattle.requests.specs.declared.answer.Name.{Name}
-use Rattle.requests.specs.declared.answer.Name.the-variants.{Model, Lend, Calculation, Column, Root, Repeat, Resume, HalfTurn, Unknown}
+use Rattle.requests.specs.declared.answer.Name.the-variants.{Model, Lend, Calculation, Plain, Column, Root, Repeat, Resume, HalfTurn, Unknown}
 use Rattle.replies.specs.Replies.{replyOf}
 use Rattle.model_requests.specs.Lend.{lendRequest}
 use Rattle.model_requests.specs.Model.{modelRequest}
@@ -34,7 +35,9 @@ nameOf w =
     (cond (sameOf w (bytes "repeat")) Repeat
     (cond (sameOf w (bytes "resume")) Resume
     (cond (sameOf w (bytes "half_turn")) HalfTurn
-    (kindName (kindNamed w))))))))
+    (cond (sameOf w (bytes "plain_matrix")) (Plain false)
+    (cond (sameOf w (bytes "plain_floating_matrix")) (Plain true)
+    (kindName (kindNamed w))))))))))
 
 -- a request that keeps the current model
 abbrev pub keeping : Arm → Reader (List ℕ) → Reader (List ℕ × Arm)
@@ -47,6 +50,7 @@ abbrev pub namedRequest : Arm → Name → Reader (List ℕ × Arm)
 namedRequest m Model = modelRequest
 namedRequest m Lend = lendRequest
 namedRequest m (Calculation k) = keeping m (calculateRequest m (Times 1) k)
+namedRequest m (Plain floating) = keeping m (plainRequest m floating)
 namedRequest m Column = keeping m columnRequest
 namedRequest m Root = keeping m rootRequest
 namedRequest m Repeat = keeping m (repeatRequest m)

@@ -12,6 +12,7 @@ use calculation_requests::request::resume;
 use calculations::make::How;
 use model_requests::lend::lend;
 use model_requests::model::model;
+use plain_requests::request::plain;
 use readings::read::Kind;
 use readings::read::Named;
 use readings::read::kind_of;
@@ -29,6 +30,8 @@ pub enum Name {
     Model,
     Lend,
     Calculation(Kind),
+    // Whether the root floats.
+    Plain(bool),
     Column,
     Root,
     Repeat,
@@ -61,6 +64,12 @@ fn name_of(w: &[u8]) -> Name
     if same(w, b"half_turn") {
         return Name::HalfTurn;
     }
+    if same(w, b"plain_matrix") {
+        return Name::Plain(false);
+    }
+    if same(w, b"plain_floating_matrix") {
+        return Name::Plain(true);
+    }
     match kind_of(w) {
         Named::Is(k) => Name::Calculation(k),
         Named::No => Name::Unknown,
@@ -81,6 +90,10 @@ fn request(m: Model, s: &[u8], out: &mut [u8], at: usize) -> Reply
         Name::Lend => lend(m, s, c, out, at),
         Name::Calculation(k) => {
             let end = calculate(m, How::Times(1), k, s, c, out, at);
+            Reply { end, model: m }
+        }
+        Name::Plain(floating) => {
+            let end = plain(m, floating, s, c, out, at);
             Reply { end, model: m }
         }
         Name::Column => {

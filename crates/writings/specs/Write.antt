@@ -34,3 +34,7 @@ backText ws out = row (workspaceText ws ∷ bytes " | " ∷ listText doubleText 
 
 abbrev pub madeText : Outcome → List ℕ → List Float → List Float → List ℕ
 madeText o counts ws out = frontText o counts ++ backText ws out
+
+-- WORD NO PLACE | OUTPUT
+abbrev pub plainText : Outcome → List Float → List ℕ
+plainText o out = row (outcomeText o ∷ bytes " | " ∷ listText doubleText out ∷ bytes "\n" ∷ [])

@@ -1,10 +1,10 @@
-// The answer of a calculation: `WORD NO PLACE | COUNTS | WORKSPACE | OUTPUT`.
+// The answer of a calculation, `WORD NO PLACE | COUNTS | WORKSPACE | OUTPUT`, and of the plain matrix, `WORD NO PLACE | OUTPUT`.
 ghost use mathlib.Core.Path.{_≡_};
 ghost use mathlib.Core.List.{_++_};
 ghost use Prim.Native.Nat.{_+_, _≤_};
 ghost use lib.ListN.{length, take};
 ghost use Rattle.replies.specs.Replies.{room};
-ghost use Rattle.writings.specs.Write.{outcomeText, allAre, workspaceText, frontText, backText, madeText};
+ghost use Rattle.writings.specs.Write.{outcomeText, allAre, workspaceText, frontText, backText, madeText, plainText};
 use calls::position::Outcome;
 use replies::put_refused;
 use words::write::put;
@@ -88,4 +88,15 @@ pub fn put_made(
 {
     let a = put_front(text, at, o, counts);
     put_back(text, a, ws, out)
+}
+
+// WORD NO PLACE | OUTPUT
+pub fn put_plain(text: &mut [u8], at: usize, o: Outcome, out: &[f64]) -> usize
+    requires { ⌜ (at + room ≤ length (now text)) × (length (now out) ≤ 2048) ⌝ }
+    ensures { λ r. ⌜ (at ≤ r) × (r ≤ at + room) × (take r (now (text .exit)) ≡ take at (now (text .entry)) ++ plainText o (now (out .entry))) ⌝ }
+{
+    let a = put_outcome(text, at, o);
+    let b = put(text, a, b" | ");
+    let c = put_doubles(text, b, out);
+    put(text, c, b"\n")
 }

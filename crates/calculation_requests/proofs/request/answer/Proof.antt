@@ -12,7 +12,7 @@ use Rattle.calculation_requests.proofs.request.answer.Reads as reads
 use Rattle.calculation_requests.proofs.request.answer.Lts as lts
 use Rattle.words.proofs.list.double_buffer.Reads as double-buffer-reads
 use Rattle.words.proofs.list.number_buffer.Reads as number-buffer-reads
-use Rattle.calculation_requests.proofs.request.output_buffer.Reads as output-buffer-reads
+use Rattle.readings.proofs.lent.output_buffer.Reads as output-buffer-reads
 use Rattle.calculation_requests.proofs.request.put_answer.Reads as put-answer-reads
 
 number-buffer-requires : tie.Need-number-buffer-requires

@@ -1,15 +1,11 @@
 -- `read::next_calculation` meets its contract.
-use mathlib.Core.Path.{sym, _∙_, subst}
-use mathlib.Core.List.{List}
-use Prim.Native.Nat.{ℕ, _-_}
+use mathlib.Core.Path.{sym}
+use Prim.Native.Nat.{_-_}
 use borrow.Author.Needs.{needs}
 use lib.Seq.{length-take-le}
-use lib.Ieee.{Float}
-use Rattle.readings.specs.Read.{calculation}
-use Rattle.readings.proofs.read.Laws.{Long, items-long}
-use mathlib.Core.Option.{Option}
-use native.Mathlib.Nat.{le-of-eq}
 use lib.Ieee.{binary64, ofBits}
+use Rattle.readings.specs.Read.{calculation}
+use Rattle.readings.proofs.read.Laws.{enough}
 use Rattle.readings.proofs.read.next_calculation.Statement.{statement}
 use Rattle.readings.proofs.read.next_calculation.Tie as tie
 use Rattle.readings.proofs.read.next_calculation.Reads as reads
@@ -44,7 +40,7 @@ slice-aggregate-calculation-by : tie.Need-slice-aggregate-calculation-by
 slice-aggregate-calculation-by c = let b2 = c .before .before in let b5 = b2 .before .before .before in sym (length-take-le _ _ ((rw (b2 .n .given .1) at (b5 .fill-doubles .ensures .1)) .1))
 
 calculation-by-requires : tie.Need-calculation-by-requires
-calculation-by-requires c κs = let b2 = c .before .before in let b5 = b2 .before .before .before in let b7 = b5 .before .before in let g = subst (λ (o : Option (List Float × List (List ℕ))). Long o (b7 .root-numbers .result)) (sym (rw (b2 .n .given .1) at (b5 .fill-doubles .ensures .0 .0))) (items-long (ofBits binary64) (b7 .root-numbers .result) _) in le-of-eq (sym (b7 .root-numbers .ensures .0) ∙ sym g)
+calculation-by-requires c κs = let b2 = c .before .before in let b5 = b2 .before .before .before in let b7 = b5 .before .before in rw (b7 .root-numbers .ensures .0) at (enough (ofBits binary64) (b7 .root-numbers .result) _ (rw (b2 .n .given .1) at (b5 .fill-doubles .ensures .0 .0)))
 
 returns-2 : tie.Need-returns-2
 unfolding calculation

@@ -79,6 +79,26 @@ returns-7 : tie.Need-returns-7
 unfolding nameOf
 returns-7 c = let b1 = c .before in let b3 = b1 .before .before in let b4 = b3 .before in let b6 = b4 .before .before in let b7 = b6 .before in let b9 = b7 .before .before in let b10 = b9 .before in let b12 = b10 .before .before in let b13 = b12 .before in let b15 = b13 .before .before in let b16 = b15 .before in let b18 = b16 .before .before in let b19 = b18 .before in rw (sym (b19 .same .ensures) ∙ b18 .if1 .left, sym (b16 .same2 .ensures) ∙ b15 .if2 .left, sym (b13 .same3 .ensures) ∙ b12 .if3 .left, sym (b10 .same4 .ensures) ∙ b9 .if4 .left, sym (b7 .same5 .ensures) ∙ b6 .if5 .left, sym (b4 .same6 .ensures) ∙ b3 .if6 .left, sym (b1 .same7 .ensures) ∙ c .if7 .taken)
 
+slice-aggregate-same-8 : tie.Need-slice-aggregate-same-8
+slice-aggregate-same-8 c = search needs
+
+same-requires-8 : tie.Need-same-requires-8
+same-requires-8 c κs = search needs
+
+returns-8 : tie.Need-returns-8
+unfolding nameOf
+returns-8 c = let b1 = c .before in let b3 = b1 .before .before in let b4 = b3 .before in let b6 = b4 .before .before in let b7 = b6 .before in let b9 = b7 .before .before in let b10 = b9 .before in let b12 = b10 .before .before in let b13 = b12 .before in let b15 = b13 .before .before in let b16 = b15 .before in let b18 = b16 .before .before in let b19 = b18 .before in let b21 = b19 .before .before in let b22 = b21 .before in rw (sym (b22 .same .ensures) ∙ b21 .if1 .left, sym (b19 .same2 .ensures) ∙ b18 .if2 .left, sym (b16 .same3 .ensures) ∙ b15 .if3 .left, sym (b13 .same4 .ensures) ∙ b12 .if4 .left, sym (b10 .same5 .ensures) ∙ b9 .if5 .left, sym (b7 .same6 .ensures) ∙ b6 .if6 .left, sym (b4 .same7 .ensures) ∙ b3 .if7 .left, sym (b1 .same8 .ensures) ∙ c .if8 .taken)
+
+slice-aggregate-same-9 : tie.Need-slice-aggregate-same-9
+slice-aggregate-same-9 c = search needs
+
+same-requires-9 : tie.Need-same-requires-9
+same-requires-9 c κs = search needs
+
+returns-9 : tie.Need-returns-9
+unfolding nameOf
+returns-9 c = let b1 = c .before in let b3 = b1 .before .before in let b4 = b3 .before in let b6 = b4 .before .before in let b7 = b6 .before in let b9 = b7 .before .before in let b10 = b9 .before in let b12 = b10 .before .before in let b13 = b12 .before in let b15 = b13 .before .before in let b16 = b15 .before in let b18 = b16 .before .before in let b19 = b18 .before in let b21 = b19 .before .before in let b22 = b21 .before in let b24 = b22 .before .before in let b25 = b24 .before in rw (sym (b25 .same .ensures) ∙ b24 .if1 .left, sym (b22 .same2 .ensures) ∙ b21 .if2 .left, sym (b19 .same3 .ensures) ∙ b18 .if3 .left, sym (b16 .same4 .ensures) ∙ b15 .if4 .left, sym (b13 .same5 .ensures) ∙ b12 .if5 .left, sym (b10 .same6 .ensures) ∙ b9 .if6 .left, sym (b7 .same7 .ensures) ∙ b6 .if7 .left, sym (b4 .same8 .ensures) ∙ b3 .if8 .left, sym (b1 .same9 .ensures) ∙ c .if9 .taken)
+
 kind-of-requires : tie.Need-kind-of-requires
 kind-of-requires c κs = search needs
 
@@ -88,13 +108,13 @@ enum-known-k c = search needs
 enum-told : tie.Need-enum-told
 enum-told c = search needs
 
-returns-8 : tie.Need-returns-8
+returns-10 : tie.Need-returns-10
 unfolding nameOf
-returns-8 c = let b1 = c .before in let b3 = b1 .before .before in let b4 = b3 .before in let b5 = b4 .before in let b7 = b5 .before .before in let b8 = b7 .before in let b10 = b8 .before .before in let b11 = b10 .before in let b13 = b11 .before .before in let b14 = b13 .before in let b16 = b14 .before .before in let b17 = b16 .before in let b19 = b17 .before .before in let b20 = b19 .before in let b22 = b20 .before .before in let b23 = b22 .before in rw (sym (b23 .same .ensures) ∙ b22 .if1 .left, sym (b20 .same2 .ensures) ∙ b19 .if2 .left, sym (b17 .same3 .ensures) ∙ b16 .if3 .left, sym (b14 .same4 .ensures) ∙ b13 .if4 .left, sym (b11 .same5 .ensures) ∙ b10 .if5 .left, sym (b8 .same6 .ensures) ∙ b7 .if6 .left, sym (b5 .same7 .ensures) ∙ b4 .if7 .left, ← b3 .kind-of .ensures, b1 .k .given .1)
+returns-10 c = let b1 = c .before in let b3 = b1 .before .before in let b4 = b3 .before in let b5 = b4 .before in let b7 = b5 .before .before in let b8 = b7 .before in let b10 = b8 .before .before in let b11 = b10 .before in let b13 = b11 .before .before in let b14 = b13 .before in let b16 = b14 .before .before in let b17 = b16 .before in let b19 = b17 .before .before in let b20 = b19 .before in let b22 = b20 .before .before in let b23 = b22 .before in let b25 = b23 .before .before in let b26 = b25 .before in let b28 = b26 .before .before in let b29 = b28 .before in rw (sym (b29 .same .ensures) ∙ b28 .if1 .left, sym (b26 .same2 .ensures) ∙ b25 .if2 .left, sym (b23 .same3 .ensures) ∙ b22 .if3 .left, sym (b20 .same4 .ensures) ∙ b19 .if4 .left, sym (b17 .same5 .ensures) ∙ b16 .if5 .left, sym (b14 .same6 .ensures) ∙ b13 .if6 .left, sym (b11 .same7 .ensures) ∙ b10 .if7 .left, sym (b8 .same8 .ensures) ∙ b7 .if8 .left, sym (b5 .same9 .ensures) ∙ b4 .if9 .left, ← b3 .kind-of .ensures, b1 .k .given .1)
 
-returns-9 : tie.Need-returns-9
+returns-11 : tie.Need-returns-11
 unfolding nameOf
-returns-9 c = let b2 = c .before .before in let b3 = b2 .before in let b4 = b3 .before in let b6 = b4 .before .before in let b7 = b6 .before in let b9 = b7 .before .before in let b10 = b9 .before in let b12 = b10 .before .before in let b13 = b12 .before in let b15 = b13 .before .before in let b16 = b15 .before in let b18 = b16 .before .before in let b19 = b18 .before in let b21 = b19 .before .before in let b22 = b21 .before in rw (sym (b22 .same .ensures) ∙ b21 .if1 .left, sym (b19 .same2 .ensures) ∙ b18 .if2 .left, sym (b16 .same3 .ensures) ∙ b15 .if3 .left, sym (b13 .same4 .ensures) ∙ b12 .if4 .left, sym (b10 .same5 .ensures) ∙ b9 .if5 .left, sym (b7 .same6 .ensures) ∙ b6 .if6 .left, sym (b4 .same7 .ensures) ∙ b3 .if7 .left, ← b2 .kind-of .ensures, c .enum-told .given .1)
+returns-11 c = let b2 = c .before .before in let b3 = b2 .before in let b4 = b3 .before in let b6 = b4 .before .before in let b7 = b6 .before in let b9 = b7 .before .before in let b10 = b9 .before in let b12 = b10 .before .before in let b13 = b12 .before in let b15 = b13 .before .before in let b16 = b15 .before in let b18 = b16 .before .before in let b19 = b18 .before in let b21 = b19 .before .before in let b22 = b21 .before in let b24 = b22 .before .before in let b25 = b24 .before in let b27 = b25 .before .before in let b28 = b27 .before in rw (sym (b28 .same .ensures) ∙ b27 .if1 .left, sym (b25 .same2 .ensures) ∙ b24 .if2 .left, sym (b22 .same3 .ensures) ∙ b21 .if3 .left, sym (b19 .same4 .ensures) ∙ b18 .if4 .left, sym (b16 .same5 .ensures) ∙ b15 .if5 .left, sym (b13 .same6 .ensures) ∙ b12 .if6 .left, sym (b10 .same7 .ensures) ∙ b9 .if7 .left, sym (b7 .same8 .ensures) ∙ b6 .if8 .left, sym (b4 .same9 .ensures) ∙ b3 .if9 .left, ← b2 .kind-of .ensures, c .enum-told .given .1)
 
 pub name-of-spec : {M : Type 1} → statement M
 name-of-spec =
@@ -121,8 +141,14 @@ name-of-spec =
     slice-aggregate-same-7
     same-requires-7
     returns-7
+    slice-aggregate-same-8
+    same-requires-8
+    returns-8
+    slice-aggregate-same-9
+    same-requires-9
+    returns-9
     kind-of-requires
     enum-known-k
     enum-told
-    returns-8
-    returns-9)
+    returns-10
+    returns-11)

@@ -5,6 +5,7 @@ use lib.ListN.{take}
 use borrow.Author.Needs.{needs}
 use Rattle.writings.specs.Column.{columnRequest}
 use Rattle.calculation_requests.specs.Request.{calculateRequest, repeatRequest, resumeRequest}
+use Rattle.plain_requests.specs.Request.{plainRequest}
 use Rattle.routine_requests.specs.Routines.{rootRequest, halfTurnRequest}
 use Rattle.requests.proofs.answer.Laws.{request-is, kept}
 use Rattle.requests.proofs.answer.request.Statement.{statement}
@@ -55,6 +56,12 @@ enum-known-name c = search needs
 
 calculate-requires : tie.Need-calculate-requires
 calculate-requires c κs = search needs
+
+enum-known-name-2 : tie.Need-enum-known-name-2
+enum-known-name-2 c = search needs
+
+plain-requires : tie.Need-plain-requires
+plain-requires c κs = search needs
 
 enum-told-3 : tie.Need-enum-told-3
 enum-told-3 c = search needs
@@ -114,37 +121,43 @@ same-length-4 : tie.Need-same-length-4
 same-length-4 c = search needs
 
 returns-4 : tie.Need-returns-4
-returns-4 c = let b2 = c .before .before in let b4 = b2 .before .before in let b6 = b4 .before .before in let b8 = b6 .before .before in let b11 = b8 .before .before .before in (b2 .column .ensures .0, b2 .column .ensures .1, rw (← request-is (b11 .args .m) _ (b8 .next-word .ensures .1) (sym (b4 .enum-told3 .given .1) ∙ b6 .name-of .ensures)) (kept (b11 .args .m) (take (b11 .args .at) (b11 .args .out .now)) (columnRequest _) (b2 .column .ensures .2)))
+returns-4 c = let b2 = c .before .before in let b5 = b2 .before .before .before in let b7 = b5 .before .before in let b9 = b7 .before .before in let b12 = b9 .before .before .before in (b2 .plain .ensures .0, b2 .plain .ensures .1, rw (← request-is (b12 .args .m) _ (b9 .next-word .ensures .1) (sym (b5 .name2 .given .1) ∙ b7 .name-of .ensures)) (kept (b12 .args .m) (take (b12 .args .at) (b12 .args .out .now)) (plainRequest _ _ _) (b2 .plain .ensures .2)))
 
 same-length-5 : tie.Need-same-length-5
 same-length-5 c = search needs
 
 returns-5 : tie.Need-returns-5
-returns-5 c = let b2 = c .before .before in let b4 = b2 .before .before in let b6 = b4 .before .before in let b8 = b6 .before .before in let b11 = b8 .before .before .before in (b2 .repeat .ensures .0, b2 .repeat .ensures .1, rw (← request-is (b11 .args .m) _ (b8 .next-word .ensures .1) (sym (b4 .enum-told4 .given .1) ∙ b6 .name-of .ensures)) (kept (b11 .args .m) (take (b11 .args .at) (b11 .args .out .now)) (repeatRequest _ _) (b2 .repeat .ensures .2)))
+returns-5 c = let b2 = c .before .before in let b4 = b2 .before .before in let b6 = b4 .before .before in let b8 = b6 .before .before in let b11 = b8 .before .before .before in (b2 .column .ensures .0, b2 .column .ensures .1, rw (← request-is (b11 .args .m) _ (b8 .next-word .ensures .1) (sym (b4 .enum-told3 .given .1) ∙ b6 .name-of .ensures)) (kept (b11 .args .m) (take (b11 .args .at) (b11 .args .out .now)) (columnRequest _) (b2 .column .ensures .2)))
 
 same-length-6 : tie.Need-same-length-6
 same-length-6 c = search needs
 
 returns-6 : tie.Need-returns-6
-returns-6 c = let b2 = c .before .before in let b4 = b2 .before .before in let b6 = b4 .before .before in let b8 = b6 .before .before in let b11 = b8 .before .before .before in (b2 .resume .ensures .0, b2 .resume .ensures .1, rw (← request-is (b11 .args .m) _ (b8 .next-word .ensures .1) (sym (b4 .enum-told5 .given .1) ∙ b6 .name-of .ensures)) (kept (b11 .args .m) (take (b11 .args .at) (b11 .args .out .now)) (resumeRequest _ _) (b2 .resume .ensures .2)))
+returns-6 c = let b2 = c .before .before in let b4 = b2 .before .before in let b6 = b4 .before .before in let b8 = b6 .before .before in let b11 = b8 .before .before .before in (b2 .repeat .ensures .0, b2 .repeat .ensures .1, rw (← request-is (b11 .args .m) _ (b8 .next-word .ensures .1) (sym (b4 .enum-told4 .given .1) ∙ b6 .name-of .ensures)) (kept (b11 .args .m) (take (b11 .args .at) (b11 .args .out .now)) (repeatRequest _ _) (b2 .repeat .ensures .2)))
 
 same-length-7 : tie.Need-same-length-7
 same-length-7 c = search needs
 
 returns-7 : tie.Need-returns-7
-returns-7 c = let b2 = c .before .before in let b4 = b2 .before .before in let b6 = b4 .before .before in let b8 = b6 .before .before in let b11 = b8 .before .before .before in (b2 .root .ensures .0, b2 .root .ensures .1, rw (← request-is (b11 .args .m) _ (b8 .next-word .ensures .1) (sym (b4 .enum-told6 .given .1) ∙ b6 .name-of .ensures)) (kept (b11 .args .m) (take (b11 .args .at) (b11 .args .out .now)) (rootRequest _) (b2 .root .ensures .2)))
+returns-7 c = let b2 = c .before .before in let b4 = b2 .before .before in let b6 = b4 .before .before in let b8 = b6 .before .before in let b11 = b8 .before .before .before in (b2 .resume .ensures .0, b2 .resume .ensures .1, rw (← request-is (b11 .args .m) _ (b8 .next-word .ensures .1) (sym (b4 .enum-told5 .given .1) ∙ b6 .name-of .ensures)) (kept (b11 .args .m) (take (b11 .args .at) (b11 .args .out .now)) (resumeRequest _ _) (b2 .resume .ensures .2)))
 
 same-length-8 : tie.Need-same-length-8
 same-length-8 c = search needs
 
 returns-8 : tie.Need-returns-8
-returns-8 c = let b2 = c .before .before in let b4 = b2 .before .before in let b6 = b4 .before .before in let b8 = b6 .before .before in let b11 = b8 .before .before .before in (b2 .half-turn .ensures .0, b2 .half-turn .ensures .1, rw (← request-is (b11 .args .m) _ (b8 .next-word .ensures .1) (sym (b4 .enum-told7 .given .1) ∙ b6 .name-of .ensures)) (kept (b11 .args .m) (take (b11 .args .at) (b11 .args .out .now)) (halfTurnRequest _) (b2 .half-turn .ensures .2)))
+returns-8 c = let b2 = c .before .before in let b4 = b2 .before .before in let b6 = b4 .before .before in let b8 = b6 .before .before in let b11 = b8 .before .before .before in (b2 .root .ensures .0, b2 .root .ensures .1, rw (← request-is (b11 .args .m) _ (b8 .next-word .ensures .1) (sym (b4 .enum-told6 .given .1) ∙ b6 .name-of .ensures)) (kept (b11 .args .m) (take (b11 .args .at) (b11 .args .out .now)) (rootRequest _) (b2 .root .ensures .2)))
 
 same-length-9 : tie.Need-same-length-9
 same-length-9 c = search needs
 
 returns-9 : tie.Need-returns-9
-returns-9 c = let b2 = c .before .before in let b4 = b2 .before .before in let b6 = b4 .before .before in let b8 = b6 .before .before in let b11 = b8 .before .before .before in (b2 .error .ensures .0, b2 .error .ensures .1, rw (← request-is (b11 .args .m) _ (b8 .next-word .ensures .1) (sym (b4 .enum-told8 .given .1) ∙ b6 .name-of .ensures)) (kept (b11 .args .m) (take (b11 .args .at) (b11 .args .out .now)) none (b2 .error .ensures .2)))
+returns-9 c = let b2 = c .before .before in let b4 = b2 .before .before in let b6 = b4 .before .before in let b8 = b6 .before .before in let b11 = b8 .before .before .before in (b2 .half-turn .ensures .0, b2 .half-turn .ensures .1, rw (← request-is (b11 .args .m) _ (b8 .next-word .ensures .1) (sym (b4 .enum-told7 .given .1) ∙ b6 .name-of .ensures)) (kept (b11 .args .m) (take (b11 .args .at) (b11 .args .out .now)) (halfTurnRequest _) (b2 .half-turn .ensures .2)))
+
+same-length-10 : tie.Need-same-length-10
+same-length-10 c = search needs
+
+returns-10 : tie.Need-returns-10
+returns-10 c = let b2 = c .before .before in let b4 = b2 .before .before in let b6 = b4 .before .before in let b8 = b6 .before .before in let b11 = b8 .before .before .before in (b2 .error .ensures .0, b2 .error .ensures .1, rw (← request-is (b11 .args .m) _ (b8 .next-word .ensures .1) (sym (b4 .enum-told8 .given .1) ∙ b6 .name-of .ensures)) (kept (b11 .args .m) (take (b11 .args .at) (b11 .args .out .now)) none (b2 .error .ensures .2)))
 
 pub request-spec : {M : Type 1} → statement M
 request-spec =
@@ -161,6 +174,8 @@ request-spec =
     lend-requires
     enum-known-name
     calculate-requires
+    enum-known-name-2
+    plain-requires
     enum-told-3
     column-requires
     enum-told-4
@@ -190,4 +205,6 @@ request-spec =
     same-length-8
     returns-8
     same-length-9
-    returns-9)
+    returns-9
+    same-length-10
+    returns-10)

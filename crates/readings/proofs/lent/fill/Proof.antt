@@ -1,17 +1,17 @@
--- `request::fill` meets its contract.
+-- `lent::fill` meets its contract.
 use mathlib.Core.Path.{refl}
 use Prim.Native.Nat.{ℕ, _-_}
 use borrow.Author.Needs.{needs}
 use lib.ListN.{length}
 use lib.Ieee.{Float}
-use Rattle.calculation_requests.specs.Request.{ones}
+use Rattle.readings.specs.Lent.{ones}
 use Rattle.numbers.specs.Double.{1·0}
 use Rattle.numbers.proofs.Filled.{Filled, none, more, full}
 use Prim.Native.Nat.{zero-le}
-use Rattle.calculation_requests.proofs.request.fill.Statement.{statement}
-use Rattle.calculation_requests.proofs.request.fill.Tie as tie
-use Rattle.calculation_requests.proofs.request.fill.Reads as reads
-use Rattle.calculation_requests.proofs.request.fill.Lts as lts
+use Rattle.readings.proofs.lent.fill.Statement.{statement}
+use Rattle.readings.proofs.lent.fill.Tie as tie
+use Rattle.readings.proofs.lent.fill.Reads as reads
+use Rattle.readings.proofs.lent.fill.Lts as lts
 
 abbrev oneAt : ℕ → Float
 oneAt k = 1·0

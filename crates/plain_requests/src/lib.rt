@@ -1,0 +1,2 @@
+// The requests of `desk` that make the plain matrix.
+pub mod request;
