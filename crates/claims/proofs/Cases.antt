@@ -1,4 +1,4 @@
--- The twelve cases, the masses, the loads, the turns and the rotors, computed. Assumes nothing.
+-- The twelve cases, the masses, the loads, the turns, the rotors and the plain engine, computed. Assumes nothing.
 use mathlib.Core.List.{_++_}
 use mathlib.Core.Path.{refl, ap₂}
 use Prim.{Unit}
@@ -45,11 +45,14 @@ use Rattle.composites.specs.Composite as composite
 use Rattle.matrix_visits.specs.Kernel as columns
 use Rattle.mass_matrix.specs.Checks as limits
 use Rattle.mass_matrix.specs.MassMatrix as matrix
+use Rattle.plain_entries.specs.Gather as gather
+use Rattle.plain_entries.specs.Entries as entries
+use Rattle.plain_matrix.specs.PlainMatrix as plain
 use Rattle.composites.specs.Plan as sizes
 use Rattle.matrix_columns.specs.Walk as walk
 use Rattle.forward_dynamics.specs.Checks as inputs
 use Rattle.forward_dynamics.specs.ForwardDynamics as dynamics
-use Rattle.claims.specs.Cases.{twelve, masses, loads as added, turns, rotors, Hold}
+use Rattle.claims.specs.Cases.{twelve, masses, loads as added, turns, rotors, plain as plainly, Hold}
 
 -- ---- what computes: to unfold one of these is to unfold all that its line names
 
@@ -72,6 +75,10 @@ open-calls = Unit {0}
 open-matrix : Type 0
 unfolding composite.compositeAt composite.putComposite composite.shiftedOf composite.toParentOf composite.joinedOf composite.forceOf composite.entryOf columns.begunOf columns.frameVisit columns.addInto columns.compositeVisit walk.baseRows walk.columnVisit walk.columnFound columns.rootColumns columns.tested columns.rootVisit columns.jointVisit columns.visitOf limits.restVerdict limits.tameVerdict limits.inputsVerdict matrix.massMatrix plan.planBy sizes.putPair sizes.addRotor walk.putEntry walk.walkStep walk.climb walk.walkOf
 open-matrix = Unit {0}
+
+open-plain : Type 0
+unfolding gather.gather gather.compositeTo entries.along entries.toRoot entries.numberOf plain.jointWith plain.jointEntry plain.baseEntry plain.cornerEntry plain.entryAt plain.plainEntries plain.plainMatrix plain.plainVerdict plain.plainCall
+open-plain = Unit {0}
 
 open-articulated : Type 0
 unfolding inertia.fromBlocks inertia.rigidOf inertia.inertiaApply inertia.signedColumn inertia.unit inertia.alongOf inertia.inertiaApplyJoint inertia.subspaceOf inertia.averageOf solve.rootOr solve.aboveTo solve.scaleOf solve.scaledOf solve.dividedOf solve.differenceOf solve.overOf solve.columnSum solve.normTo solve.sizeOf solve.basis solve.nextNorm solve.inverseTo solve.residualOf solve.nearOf solve.checkedOf solve.solutionOf solve.conditionedOf solve.factoredOf solve.baseSolve first.bodyInertia first.biasForce first.firstOf base.rootVelocity base.gravityLocal base.fixedAcceleration base.rightSide base.worldAcceleration base.judgedBase base.solvedBase base.baseOf second.termOf second.judgedTerm third.carriedAcceleration third.jointAcceleration third.movedBy
@@ -110,3 +117,7 @@ turn-cases = refl
 pub rotor-cases : Hold rotors
 unfolding rotors open-numbers open-spatial open-arm open-calls open-matrix open-articulated open-dynamics
 rotor-cases = refl
+
+pub plain-cases : Hold plainly
+unfolding plainly open-numbers open-spatial open-arm open-calls open-matrix open-plain
+plain-cases = refl

@@ -1,4 +1,4 @@
--- The twelve small cases of document 01, and of document 02 the masses of item 9, the loads of item 3, the turns of item 6 and the rotors of item 11: what is asked, by the definitions of the calls, and what is to be told. Definitions only.
+-- The twelve small cases of document 01, and of document 02 the masses of item 9, the loads of item 3, the turns of item 6, the rotors of item 11 and the plain engine of item 10: what is asked, by the definitions of the calls, and what is to be told. Definitions only.
 -- "Unless said: identity origins and root rotation, fixed root, other numbers zero."
 use mathlib.Core.List.{List, [], _∷_, _++_, map}
 use mathlib.Core.Path.{_≡_}
@@ -32,6 +32,7 @@ use Rattle.calls.specs.declared.position.Outcome.the-variants.{Open, Accepted}
 use Rattle.calls.specs.declared.position.Outcome.the-variants as outcome
 use Rattle.mass_matrix.specs.MassMatrix.{massMatrix}
 use Rattle.mass_matrix.specs.declared.mass_matrix.Mode.the-variants as matrix
+use Rattle.plain_matrix.specs.PlainMatrix.{plainCall}
 use Rattle.forward_dynamics.specs.ForwardDynamics.{forwardDynamics}
 use Rattle.forward_slots.specs.Loads.{loadOf}
 use Rattle.forward_visits.specs.Inputs.{inputsBy}
@@ -116,6 +117,13 @@ geared parent a b c d = builtOf 2 (0 ∷ parent ∷ []) (1 ∷ 1 ∷ []) (origin
 abbrev twoSlides : ℕ → Float → Float → Built
 twoSlides parent a b = geared parent a b 0·0 0·0
 
+-- a turn about z, on it a slide along x, and on that a turn about z
+abbrev read : Built
+read =
+    let at : Float → Float → List Float = λ x y. 1·0 ∷ zeros 3 ++ x ∷ y ∷ 0·0 ∷ [] in
+    builtOf 3 (0 ∷ 1 ∷ 2 ∷ []) (0 ∷ 1 ∷ 0 ∷ []) (origin ++ at 1·0 2·0 ++ at 0·0 2·0) (z ++ axis 1·0 0·0 0·0 ++ z)
+    (zeros 10 ++ link 1·0 0·0 0·0 1·0 ++ (3·0 ∷ 0·0 ∷ 1·0 ∷ zeros 6 ++ 4·0 ∷ []) ++ (2·0 ∷ 1·0 ∷ zeros 7 ++ 2·0 ∷ [])) (0·0 ∷ bits 0x3fe0_0000_0000_0000 ∷ 0·0 ∷ [])
+
 -- ---- the calls
 
 -- joint 0's axis, as it is kept
@@ -171,6 +179,13 @@ loadOn loaded loads = given (patterns (vectorOf (loadOf loaded loads 1)))
 
 abbrev pulled : Float → Float → Told
 pulled a b = loadedForward (Fixed upright) (oneSlide 2·0) (0·0 ∷ []) (1 ∷ 1 ∷ []) (alongZ a ++ alongZ b)
+
+-- the plain engine's, on a fixed root
+abbrev plainAt : List Float → ℕ → Built → Told
+plainAt q out b = let a = plainCall matrix.Fixed (b .model) q (ones out) in ofOutcome (a .0) (a .1)
+
+abbrev plainFixed : Built → Told
+plainFixed b = let n = b .model .n in plainAt (zeros n) (n * n) b
 
 -- a turn on z that carries an inertia of 5, by q: its entry is 5 wherever it stands
 abbrev turnedBy : Float → Told
@@ -270,6 +285,20 @@ rotors =
     ∷ (keptRotors 0 1·0 -3·0, refused 26 (At 1) (0 ∷ 0 ∷ []))
     ∷ (keptRotors 0 -3·0 -3·0, refused 26 (At 0) (0 ∷ 0 ∷ []))
     ∷ (keptRotors 0 -3·0 nan, refused 6 (At 1) (0 ∷ 0 ∷ []))
+    ∷ []
+
+-- document 02, item 10: the plain engine
+unfoldable pub plain : List (Told × Told)
+plain =
+    -- cases 6, 7 and 11, and case 6 with rotors
+    (plainFixed (twoSlides 1 2·0 3·0), given (0x4014_0000_0000_0000 ∷ 0x4008_0000_0000_0000 ∷ 0x4008_0000_0000_0000 ∷ 0x4008_0000_0000_0000 ∷ []))
+    ∷ (plainFixed (twoSlides 0 2·0 3·0), given (0x4000_0000_0000_0000 ∷ 0 ∷ 0 ∷ 0x4008_0000_0000_0000 ∷ []))
+    ∷ (plainFixed (twoSlides 1 huge huge), refused 37 Nothing (replicate 4 0x3ff0_0000_0000_0000))
+    ∷ (plainFixed (geared 1 2·0 3·0 1·0 2·0), given (0x4018_0000_0000_0000 ∷ 0x4008_0000_0000_0000 ∷ 0x4008_0000_0000_0000 ∷ 0x4014_0000_0000_0000 ∷ []))
+    -- an output of 3 numbers
+    ∷ (plainAt (zeros 2) 3 (twoSlides 1 2·0 3·0), refused 17 Nothing (replicate 3 0x3ff0_0000_0000_0000))
+    -- the second reader's arm (docs/READING.md): 106, -15, 5, -15, 5.5, 0, 5, 0, 2
+    ∷ (plainAt (0·0 ∷ 2·0 ∷ 0·0 ∷ []) 9 read, given (0x405a_8000_0000_0000 ∷ 0xc02e_0000_0000_0000 ∷ 0x4014_0000_0000_0000 ∷ 0xc02e_0000_0000_0000 ∷ 0x4016_0000_0000_0000 ∷ 0 ∷ 0x4014_0000_0000_0000 ∷ 0 ∷ 0x4000_0000_0000_0000 ∷ []))
     ∷ []
 
 -- each is told as expected

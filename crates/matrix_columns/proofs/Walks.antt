@@ -10,7 +10,6 @@ use borrow.Author.Tests.{eqb-true, eqb-false, ne-eqb}
 use lib.Dec.{eqb}
 use lib.ListN.{getD}
 use lib.Ieee.{Float, nan}
-use Rattle.numbers.specs.declared.vec3.Vec3.{Vec3}
 use Rattle.spatial.specs.Operators.{wrenchToParent}
 use Rattle.spatial.specs.declared.frame.Frame.{Frame}
 use Rattle.spatial.specs.declared.wrench.Wrench.{Wrench}

@@ -6,11 +6,9 @@ use Prim.Native.Nat.{ℕ, zero, suc, _+_, _-_, _≤_, _<_}
 use native.Mathlib.Nat.{eq-or-lt-of-le}
 use native.Mathlib.Omega.{arith}
 use borrow.Author.Tests.{le-ltb}
-use lib.Dec.{ltb}
 use lib.ListN.{length, getD}
 use lib.Ieee.{Float, nan}
 use Rattle.numbers.specs.declared.quaternion.Quaternion.{Quaternion}
-use Rattle.numbers.specs.declared.vec3.Vec3.{Vec3}
 use Rattle.spatial.specs.declared.wrench.Wrench.{Wrench}
 use Rattle.slots.specs.Slots.{wrenchAt, putWrench}
 use Rattle.slots.proofs.Lengths.{length-putWrench}

@@ -8,7 +8,7 @@ use native.Mathlib.Nat.{eq-or-lt-of-le}
 use native.Mathlib.Numerals.{add-one}
 use native.Mathlib.Omega.{arith}
 use borrow.Author.Tests.{eqb-true, eqb-false, eq-eqb, ne-eqb, lt-ltb, le-ltb}
-use lib.Dec.{eqb, ltb}
+use lib.Dec.{eqb}
 use lib.ListN.{length, getD}
 use lib.Ieee.{Float, nan}
 use Rattle.numbers.specs.Double.{0·0}
@@ -18,7 +18,7 @@ use Rattle.slots.specs.Slots.{frameAt, putFrame, zeroTo}
 use Rattle.slots.proofs.Lengths.{length-putFrame, length-zeroTo}
 use Rattle.slots.proofs.Blocks.{Outside, wider, before, behind, both, untouched, split, putFrame-outside, frame-same}
 use Rattle.slots.proofs.Puts.{frame-put, zeroed}
-use Rattle.arm.specs.Model.{parentOf, linkOf, Tree}
+use Rattle.arm.specs.Model.{linkOf, Tree}
 use Rattle.arm.specs.Topology.{jointFrame}
 use Rattle.arm.specs.declared.model.Link.{Link}
 use Rattle.arm.specs.declared.model.Model.{Model}

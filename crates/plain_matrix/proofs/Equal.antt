@@ -7,7 +7,6 @@ use Prim.Native.Nat.{ℕ, suc, _+_, _-_, _*_, _/_, _%_, _≤_, _<_}
 use native.Mathlib.Nat.{div-add-mod'}
 use native.Mathlib.Omega.{arith}
 use borrow.Author.Tests.{le-ltb, lt-ltb}
-use lib.Dec.{ltb}
 use lib.ListN.{length, getD, take, drop, length-drop}
 use lib.Seq.{ext-getD, getD-take, getD-drop, length-take-le}
 use lib.Ieee.{Float, nan}
@@ -27,7 +26,7 @@ use Rattle.arm.specs.Model.{wildOf}
 use Rattle.arm.specs.Topology.{activesOf, activeNumbers}
 use Rattle.arm.specs.declared.model.Model.{Model}
 use Rattle.calls.specs.Plan.{planBy, planOf, Fit}
-use Rattle.calls.specs.Position.{State, Result, visitsOf, freshAt, opening, advancedBy, closing, landed, stepBy, iterate, answerBy, refusedAt, wholeOf}
+use Rattle.calls.specs.Position.{State, Result, visitsOf, freshAt, opening, advancedBy, closing, stepBy, iterate, answerBy, refusedAt, wholeOf}
 use Rattle.calls.specs.declared.plan.Plan.{Plan}
 use Rattle.calls.specs.declared.position.Outcome.{Outcome}
 use Rattle.calls.specs.declared.position.Outcome.the-variants.{Accepted}
@@ -38,7 +37,7 @@ use Rattle.matrix_visits.specs.Kernel.{rootColumns, tested, rootVisit, visitOf}
 use Rattle.matrix_visits.proofs.Stages.{stage}
 use Rattle.matrix_visits.proofs.Filled.{Done, columns-done}
 use Rattle.mass_matrix.specs.Checks.{inputsVerdict}
-use Rattle.mass_matrix.specs.MassMatrix.{floats, rotationOf, massMatrix, Ready}
+use Rattle.mass_matrix.specs.MassMatrix.{floats, rotationOf, massMatrix}
 use Rattle.mass_matrix.specs.declared.mass_matrix.Mode.{Mode}
 use Rattle.mass_matrix.proofs.Ready.{plan-ready}
 use Rattle.mass_matrix.proofs.Runs.{last, run-whole}

@@ -3,7 +3,7 @@ use mathlib.Core.Bool.{Bool, true, false, cond}
 use mathlib.Core.List.{List}
 use mathlib.Core.Logic.{⊎-elim}
 use mathlib.Core.Path.{_≡_, refl, sym, ap, ap₂, _∙_}
-use Prim.Native.Nat.{ℕ, _+_, _-_, _≤_, _<_}
+use Prim.Native.Nat.{ℕ, _-_, _≤_, _<_}
 use native.Mathlib.Omega.{arith}
 use borrow.Author.Tests.{eqb-true, eqb-false, ltb-true, ltb-false}
 use lib.Dec.{eqb, ltb}
@@ -25,7 +25,6 @@ use Rattle.calls.specs.declared.plan.Plan.{Plan}
 use Rattle.composites.specs.Composite.{compositeAt}
 use Rattle.composites.specs.Plan.{rootPlace, placeOf, roomOf}
 use Rattle.plain_entries.specs.Arm.{Arm, armOf}
-use Rattle.plain_entries.specs.Gather.{compositeOf}
 use Rattle.plain_entries.specs.Entries.{entryBetween, numberOf}
 use Rattle.matrix_columns.proofs.Walks.{Active, rowFor}
 use Rattle.matrix_columns.proofs.Columns.{Joints, Rows}

@@ -64,9 +64,12 @@ entryAt a lead r kinds row column =
 
 -- ---- the matrix
 
--- column by column
+-- column by column: its number t
+abbrev pub plainNumber : Arm → Plan → Quaternion → List ℕ → ℕ → Float
+plainNumber a p r kinds t = entryAt a (p .lead) r kinds (t % p .side) (t / p .side)
+
 unfoldable pub plainEntries : Arm → Plan → Quaternion → List ℕ → List Float
-plainEntries a p r kinds = tab (λ t. entryAt a (p .lead) r kinds (t % p .side) (t / p .side)) (p .side * p .side)
+plainEntries a p r kinds = tab (plainNumber a p r kinds) (p .side * p .side)
 
 -- what is answered, and the output then: 37 leaves it
 unfoldable pub plainMatrix : Mode → Model → List Float → List Float → Outcome × List Float

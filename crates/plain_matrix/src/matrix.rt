@@ -1,14 +1,13 @@
 // Any entry of the matrix by itself, and all of them: the first rows and columns are a floating base's.
 ghost use mathlib.Core.Path.{_≡_};
 ghost use Prim.Native.Nat.{_+_, _*_, _≤_, _<_};
-ghost use lib.ListN.{length, getD};
-ghost use lib.Ieee.{nan};
+ghost use lib.ListN.{length};
 ghost use Rattle.numbers.specs.Double.{allFinite};
 ghost use Rattle.arm.specs.Model.{bundle, Good};
 ghost use Rattle.arm.specs.Topology.{activesOf, activeNumbers};
 ghost use Rattle.calls.specs.Plan.{Fit};
 ghost use Rattle.plain_entries.specs.Arm.{armOf};
-ghost use Rattle.plain_matrix.specs.PlainMatrix.{jointWith, jointEntry, baseEntry, cornerEntry, entryAt, plainEntries};
+ghost use Rattle.plain_matrix.specs.PlainMatrix.{jointWith, jointEntry, baseEntry, cornerEntry, entryAt, plainNumber, plainEntries};
 use arm::topology;
 use calls::plan::Plan;
 use matrix_visits::kernel;
@@ -245,7 +244,7 @@ fn number<'a>(
     t: usize,
 ) -> f64
     requires { ⌜ Fit p (now parents) (now kinds) (now numbers) × (length (now q) ≡ activesOf (now kinds) (p .n)) × (t < p .side * p .side) ⌝ }
-    ensures { λ x. ⌜ x ≡ getD (plainEntries (armOf (bundle (p .n) (now (parents .entry)) (now (kinds .entry)) (now (origins .entry)) (now (axes .entry)) (now (links .entry)) (now (rotors .entry))) (now (q .entry))) p r (now (kinds .entry))) t nan ⌝ }
+    ensures { λ x. ⌜ x ≡ plainNumber (armOf (bundle (p .n) (now (parents .entry)) (now (kinds .entry)) (now (origins .entry)) (now (axes .entry)) (now (links .entry)) (now (rotors .entry))) (now (q .entry))) p r (now (kinds .entry)) t ⌝ }
 {
     let n = p.n;
     let lead = p.lead;

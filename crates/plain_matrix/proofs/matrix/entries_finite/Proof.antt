@@ -1,5 +1,5 @@
 use mathlib.Core.Path.{_≡_, refl, sym, ap, _∙_}
-use Prim.Native.Nat.{ℕ, _*_, _-_, _≤_}
+use Prim.Native.Nat.{_*_, _-_, _≤_}
 use native.Mathlib.Numerals.{add-one}
 use native.Mathlib.Omega.{arith}
 use Rattle.arm.specs.Model.{bundle}
@@ -7,7 +7,7 @@ use Rattle.composites.proofs.plan.Squares.{small-square}
 use Rattle.plain_matrix.specs.PlainMatrix.{plainEntries}
 use Rattle.plain_entries.specs.Arm.{armOf}
 use Rattle.numbers.specs.Double.{finiteTo}
-use Rattle.plain_matrix.proofs.Listed.{length-entries}
+use Rattle.plain_matrix.proofs.Listed.{length-entries, number-is}
 use borrow.Author.Needs.{needs}
 use Rattle.plain_matrix.proofs.matrix.entries_finite.Statement.{statement}
 use Rattle.plain_matrix.proofs.matrix.entries_finite.Tie as tie
@@ -42,7 +42,13 @@ loop-less c = search needs
 
 loop-again : tie.Need-loop-again Inv-loop μ-loop
 unfolding finiteTo
-loop-again c = let o = c .before .before .before .before in (search needs, rw (add-one (o .loop .k), c .both .ensures, c .before .is-finite .ensures, c .before .before .number .ensures, o .loop .inv .1))
+loop-again c =
+    let b3 = c .before .before .before in
+    let o = b3 .before in
+    let s = o .before .before in
+    let arm = armOf (bundle (s .args .p .n) (s .args .parents .now) (s .args .kinds .now) (s .args .origins .now) (s .args .axes .now) (s .args .links .now) (s .args .rotors .now)) (s .args .q .now) in
+    let is = c .before .before .number .ensures ∙ number-is arm (s .args .p) (s .args .r) (s .args .kinds .now) (o .loop .k) (b3 .loop-test .taken) in
+    (search needs, rw (add-one (o .loop .k), c .both .ensures, c .before .is-finite .ensures, is, o .loop .inv .1))
 
 returns : tie.Need-returns Inv-loop μ-loop
 returns c = let o = c .before in let s = o .before .before in let k : o .loop .k ≡ s .args .p .side * s .args .p .side = omega (arith, o .loop .inv .0) in o .loop .inv .1 ∙ ap (finiteTo _) (k ∙ sym (length-entries _ _ _ _))

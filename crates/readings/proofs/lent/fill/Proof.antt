@@ -10,8 +10,6 @@ use Rattle.numbers.proofs.Filled.{Filled, none, more, full}
 use Prim.Native.Nat.{zero-le}
 use Rattle.readings.proofs.lent.fill.Statement.{statement}
 use Rattle.readings.proofs.lent.fill.Tie as tie
-use Rattle.readings.proofs.lent.fill.Reads as reads
-use Rattle.readings.proofs.lent.fill.Lts as lts
 
 abbrev oneAt : ℕ → Float
 oneAt k = 1·0
