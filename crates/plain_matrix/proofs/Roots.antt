@@ -43,9 +43,9 @@ unfolding numberOf
 number-read e f k = ap (λ (l : List Float). getD l k nan) e ∙ ap (λ (w : Wrench). getD (vectorOf w) k nan) f
 
 -- what the search answers
-pub found-joint : (kinds : List ℕ) (n k j : ℕ) → k < activesOf kinds n → {found : Place} → found ≡ activeJoint kinds n k → found ≡ At j → (j ≡ jointWith kinds n k) × (j < n)
+pub found-joint : (kinds : List ℕ) (n k j : ℕ) {found : Place} → found ≡ activeJoint kinds n k → found ≡ At j → (j ≡ jointWith kinds n k) × (j < n)
 unfolding jointWith
-found-joint kinds n k j h e f = (rw (sym e ∙ f), found-is kinds n k j (sym e ∙ f) .joint)
+found-joint kinds n k j e f = (rw (sym e ∙ f), found-is kinds n k j (sym e ∙ f) .joint)
 
 pub not-found : (kinds : List ℕ) (n k : ℕ) → k < activesOf kinds n → {found : Place} → found ≡ activeJoint kinds n k → found ≡ Nothing → ⊥
 not-found kinds n k h e f = let (j, there, named) = numbered kinds n k h in let z : At j ≡ Nothing = sym there ∙ sym e ∙ f in let y : _≡_ {A = ℕ} 0 1 = cc in omega arith

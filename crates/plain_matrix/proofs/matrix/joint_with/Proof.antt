@@ -15,7 +15,7 @@ enum-told : tie.Need-enum-told
 enum-told c = search needs
 
 returns : tie.Need-returns
-returns c = let b3 = c .before .before .before in found-joint _ _ _ _ (b3 .before .pre .2) (b3 .active-joint .ensures) (c .before .found .given .1)
+returns c = let b3 = c .before .before .before in found-joint _ _ _ _ (b3 .active-joint .ensures) (c .before .found .given .1)
 
 returns-2 : tie.Need-returns-2
 returns-2 c = let b2 = c .before .before in absurd (not-found _ _ _ (b2 .before .pre .2) (b2 .active-joint .ensures) (c .enum-told .given .1))

@@ -1,8 +1,6 @@
-use mathlib.Core.Path.{_≡_, refl}
 use mathlib.Core.List.{List}
 use Prim.Native.Nat.{ℕ, _*_, _-_, zero-le}
 use native.Mathlib.Omega.{arith}
-use lib.ListN.{length}
 use lib.Ieee.{Float}
 use Rattle.numbers.proofs.Filled.{Filled, none, more, full}
 use Rattle.numbers.specs.declared.quaternion.Quaternion.{Quaternion}
