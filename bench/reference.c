@@ -1,10 +1,12 @@
-/* The two calculations in plain C, to measure `desk` against (bench/run).
+/* The two calculations, and the mass matrix by its plain rule too, in plain C, to measure `desk` against (bench/run).
  *
  * The same arithmetic in the same order as document 01 and the Rust: nothing is fused, sums run left to right from the first product, every
- * product that the Rust's expressions have is made. Each call makes the checks 9 to 22, clears the workspace, makes all visits, and closes.
+ * product that the Rust's expressions have is made. Each call makes the checks 9 to 22, clears the workspace, makes all visits, and closes; the
+ * plain matrix has no workspace.
  *
  * It reads the same lines as `desk` (docs/CASES.md) and writes the same answers, so that bits can be compared before anything is timed. It takes
- * `model`, the four calculations with no portions, and `repeat`; any other line is an `error`. It makes no checks on `model`: those are not timed.
+ * `model`, the four calculations with no portions, `repeat`, and the two requests of the plain matrix; any other line is an `error`. It makes no
+ * checks on `model`: those are not timed.
  *
  * cc -O3 -ffp-contract=off -o reference reference.c -lm
  */
@@ -45,7 +47,7 @@ typedef struct { uint64_t length; double items[LONGEST_LIST]; } Doubles;
 typedef struct { uint64_t length, items[LONGEST_LIST]; } Counts;
 
 typedef struct {
-    bool forward, floating;
+    bool plain, forward, floating;
     Quaternion rotation;
     Six velocity;
     Doubles q, qd, forces, loads;
@@ -360,7 +362,7 @@ static bool bad_root(const Call *c) {
 }
 static bool unfit(const Model *m, const Plan *p, const Call *c, Answer *answer) {
     uint64_t need = c->forward ? 96 * m->n + 64 : 32 * m->n + 64 + p->g * p->g;
-    if (c->ws_length < need) return *answer = refused(10, NOTHING), true;
+    if (!c->plain && c->ws_length < need) return *answer = refused(10, NOTHING), true;
     if (c->q.length != p->a) return *answer = refused(11, NOTHING), true;
     if (bad_values(m, p, c->q.items, answer, 12) || far_turn(m, p, c->q.items, answer)) return true;
     if (c->forward) {
@@ -382,12 +384,12 @@ static bool unfit(const Model *m, const Plan *p, const Call *c, Answer *answer) 
 
 typedef struct { Frame frame; Body body; double rest[12]; } MatrixJoint;
 
-static inline void add_composite(Body *to, const MatrixJoint *from) {
-    Vec3 t = from->frame.translation;
-    Mat3 r = rotation_matrix(from->frame.rotation);
-    Vec3 h = apply3(&r, from->body.moment);
-    Mat3 inertia = turned(&r, &from->body.inertia);
-    double mass = from->body.mass, s = mass * dot(t, t) + 2.0 * dot(t, h);
+static inline void add_composite(Body *to, const Frame *f, const Body *from) {
+    Vec3 t = f->translation;
+    Mat3 r = rotation_matrix(f->rotation);
+    Vec3 h = apply3(&r, from->moment);
+    Mat3 inertia = turned(&r, &from->inertia);
+    double mass = from->mass, s = mass * dot(t, t) + 2.0 * dot(t, h);
     Vec3 mt = scale(mass, t);
     const double tv[3] = {t.x, t.y, t.z}, hv[3] = {h.x, h.y, h.z}, mv[3] = {mt.x, mt.y, mt.z};
     to->mass += mass;
@@ -398,13 +400,22 @@ static inline void add_composite(Body *to, const MatrixJoint *from) {
 }
 static inline Six turn_force(Vec3 axis, const Body *b) { return (Six){apply3(&b->inertia, axis), cross(axis, b->moment)}; }
 static inline Six slide_force(Vec3 axis, const Body *b) { return (Six){cross(b->moment, axis), scale(b->mass, axis)}; }
+/* Of an active joint: what answers its motion, and what a force gives along it. */
+static inline Six joint_force(const Model *m, uint64_t j, const Body *b) {
+    return m->kinds[j] == TURN ? turn_force(m->axes[j], b) : slide_force(m->axes[j], b);
+}
+static inline double along(const Model *m, uint64_t j, Six force) { return dot(m->axes[j], m->kinds[j] == TURN ? force.turn : force.shift); }
+static inline Six base_load(const Call *c, const Body *root, uint64_t k) {
+    Vec3 axis = rotate(inverse(c->rotation), vec(k % 3 == 0, k % 3 == 1, k % 3 == 2));
+    return rotate6(c->rotation, k < 3 ? turn_force(axis, root) : slide_force(axis, root));
+}
 
 static void column(const Model *m, const Plan *p, const Call *c, const MatrixJoint *w, double *matrix, uint64_t j) {
     uint64_t side = p->g, own = p->lead + p->numbers[j], i = j;
-    Six force = m->kinds[j] == TURN ? turn_force(m->axes[j], &w[j].body) : slide_force(m->axes[j], &w[j].body);
+    Six force = joint_force(m, j, &w[j].body);
     for (;;) {
         if (m->kinds[i] != FIXED) {
-            double entry = dot(m->axes[i], m->kinds[i] == TURN ? force.turn : force.shift);
+            double entry = along(m, i, force);
             uint64_t row = p->lead + p->numbers[i];
             matrix[row * side + own] = entry;
             matrix[own * side + row] = entry;
@@ -422,10 +433,7 @@ static void column(const Model *m, const Plan *p, const Call *c, const MatrixJoi
     }
 }
 static void base_columns(const Call *c, const Body *root, uint64_t side, double *matrix) {
-    for (uint64_t k = 0; k < 6; k++) {
-        Vec3 axis = rotate(inverse(c->rotation), vec(k % 3 == 0, k % 3 == 1, k % 3 == 2));
-        spread(rotate6(c->rotation, k < 3 ? turn_force(axis, root) : slide_force(axis, root)), matrix + k * side);
-    }
+    for (uint64_t k = 0; k < 6; k++) spread(base_load(c, root, k), matrix + k * side);
 }
 static Answer close_call(Call *c, Answer answer) {
     memset(c->ws, 0, c->ws_length * sizeof(double));
@@ -443,8 +451,8 @@ static Answer mass_matrix(const Model *m, const Plan *p, Call *c) {
         w[j].body = m->links[j + 1];
     }
     for (uint64_t j = m->n; j-- > 0;) {
-        if (m->parents[j] != 0) add_composite(&w[m->parents[j] - 1].body, &w[j]);
-        else if (c->floating) add_composite(root, &w[j]);
+        if (m->parents[j] != 0) add_composite(&w[m->parents[j] - 1].body, &w[j].frame, &w[j].body);
+        else if (c->floating) add_composite(root, &w[j].frame, &w[j].body);
     }
     for (uint64_t j = 0; j < m->n; j++)
         if (m->kinds[j] != FIXED) {
@@ -456,6 +464,69 @@ static Answer mass_matrix(const Model *m, const Plan *p, Call *c) {
     if (!all_finite(matrix, entries)) return close_call(c, (Answer){37, NOTHING, visits});
     memcpy(c->out, matrix, entries * sizeof(double));
     return close_call(c, (Answer){0, NOTHING, visits});
+}
+
+/* The plain mass matrix: every entry by itself, with no workspace. */
+
+static Frame plain_frame(const Model *m, const Plan *p, const Call *c, uint64_t j) { return frame_of(m, j, value_of(m, p, c->q.items, j)); }
+static Body composite(const Model *m, const Plan *p, const Call *c, uint64_t link) {
+    Body whole = m->links[link];
+    for (uint64_t j = m->n; j-- > 0;)
+        if (m->parents[j] == link) {
+            Body carried = composite(m, p, c, j + 1);
+            Frame f = plain_frame(m, p, c, j);
+            add_composite(&whole, &f, &carried);
+        }
+    return whole;
+}
+static uint64_t joint_with(const Model *m, const Plan *p, uint64_t k) {
+    uint64_t j = 0;
+    while (m->kinds[j] == FIXED || p->numbers[j] != k) j++;
+    return j;
+}
+static double joint_entry(const Model *m, const Plan *p, const Call *c, uint64_t high, uint64_t low) {
+    Body whole = composite(m, p, c, high + 1);
+    Six force = joint_force(m, high, &whole);
+    for (uint64_t j = high; j != low; j = m->parents[j] - 1) {
+        if (m->parents[j] == 0) return 0.0;
+        Frame f = plain_frame(m, p, c, j);
+        force = wrench_to_parent(&f, force);
+    }
+    double entry = along(m, low, force);
+    return high == low ? with_rotor(m, high, entry) : entry;
+}
+static double base_entry(const Model *m, const Plan *p, const Call *c, uint64_t k, uint64_t j) {
+    Body whole = composite(m, p, c, j + 1);
+    Six force = joint_force(m, j, &whole);
+    for (uint64_t link = j + 1; link != 0; link = m->parents[link - 1]) {
+        Frame f = plain_frame(m, p, c, link - 1);
+        force = wrench_to_parent(&f, force);
+    }
+    double rows[6];
+    spread(rotate6(c->rotation, force), rows);
+    return rows[k];
+}
+static double corner_entry(const Model *m, const Plan *p, const Call *c, uint64_t row, uint64_t column) {
+    Body whole = composite(m, p, c, 0);
+    double rows[6];
+    spread(base_load(c, &whole, column), rows);
+    return rows[row];
+}
+/* It is not inlined, so that no entry's work serves another. */
+static __attribute__((noinline)) double plain_entry(const Model *m, const Plan *p, const Call *c, uint64_t row, uint64_t column) {
+    uint64_t low = row < column ? row : column, high = row < column ? column : row;
+    if (high < p->lead) return corner_entry(m, p, c, row, column);
+    uint64_t j = joint_with(m, p, high - p->lead);
+    if (low < p->lead) return base_entry(m, p, c, low, j);
+    return joint_entry(m, p, c, j, joint_with(m, p, low - p->lead));
+}
+static Answer plain_matrix(const Model *m, const Plan *p, Call *c) {
+    uint64_t entries = p->g * p->g;
+    bool finite = true;
+    for (uint64_t t = 0; t < entries; t++) finite &= isfinite(plain_entry(m, p, c, t % p->g, t / p->g)) != 0;
+    if (!finite) return refused(37, NOTHING);
+    for (uint64_t t = 0; t < entries; t++) c->out[t] = plain_entry(m, p, c, t % p->g, t / p->g);
+    return (Answer){0, NOTHING, 0};
 }
 
 /* Forward dynamics */
@@ -599,6 +670,7 @@ static __attribute__((noinline)) Answer call(const Model *m, Call *c) {
     if (bad_model(m)) return refused(9, NOTHING);
     Plan p = plan_of(m, c->floating);
     if (unfit(m, &p, c, &answer)) return answer;
+    if (c->plain) return plain_matrix(m, &p, c);
     return c->forward ? forward_dynamics(m, &p, c) : mass_matrix(m, &p, c);
 }
 
@@ -687,7 +759,9 @@ static bool read_model(Words *w, Model *m) {
     return true;
 }
 static bool read_call(Words *w, const char *name, Call *c) {
-    c->forward = strstr(name, "forward") != NULL;
+    c->plain = strncmp(name, "plain_", 6) == 0;
+    if (c->plain) name += 6;
+    c->forward = !c->plain && strstr(name, "forward") != NULL;
     c->floating = strncmp(name, "floating_", 9) == 0;
     if (strcmp(name + (c->floating ? 9 : 0), c->forward ? "forward" : "matrix") != 0) return false;
     if (c->forward || c->floating) c->rotation = quaternion(w);
@@ -699,9 +773,9 @@ static bool read_call(Words *w, const char *name, Call *c) {
         counts(w, &c->links);
         doubles(w, &c->loads);
     }
-    c->ws_length = length(w, sizeof c->ws / sizeof *c->ws);
+    c->ws_length = c->plain ? 0 : length(w, sizeof c->ws / sizeof *c->ws);
     c->out_length = length(w, sizeof c->out / sizeof *c->out);
-    if (number(w) != 0) return false;
+    if (!c->plain && number(w) != 0) return false;
     for (uint64_t i = 0; i < c->ws_length; i++) c->ws[i] = 1.0;
     for (uint64_t i = 0; i < c->out_length; i++) c->out[i] = 1.0;
     return !w->bad && !*w->rest;
@@ -717,7 +791,8 @@ static void print_answer(const Call *c, Answer answer) {
     else if (answer.place == NOTHING) printf("refused %d -", answer.number);
     else printf("refused %d %lx", answer.number, answer.place);
     const char *state = all_are(c->ws, c->ws_length, 0.0) ? "zero" : all_are(c->ws, c->ws_length, 1.0) ? "kept" : "numbers";
-    printf(" | 1 %llx | %s | %llx", (unsigned long long)answer.visits, state, (unsigned long long)c->out_length);
+    if (!c->plain) printf(" | 1 %llx | %s", (unsigned long long)answer.visits, state);
+    printf(" | %llx", (unsigned long long)c->out_length);
     for (uint64_t i = 0; i < c->out_length; i++) {
         uint64_t bits;
         memcpy(&bits, &c->out[i], sizeof bits);
@@ -738,16 +813,17 @@ int main(void) {
         if (!line[0] || line[0] == '#') continue;
         Words words = {line, false};
         char *name = word(&words);
+        bool repeated = strcmp(name, "repeat") == 0;
         uint64_t times_asked = 1;
         if (strcmp(name, "model") == 0) {
             puts(read_model(&words, &model) ? "model" : "error");
             continue;
         }
-        if (strcmp(name, "repeat") == 0) {
+        if (repeated) {
             times_asked = number(&words);
             name = word(&words);
         }
-        if (times_asked < 1 || times_asked > 1000000 || !read_call(&words, name, &c)) {
+        if (times_asked < 1 || times_asked > 1000000 || !read_call(&words, name, &c) || (c.plain && repeated)) {
             puts("error");
             continue;
         }
