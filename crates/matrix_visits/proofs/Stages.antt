@@ -37,7 +37,7 @@ abbrev pub Blank : Plan → List Float → Type 0
 Blank p ws = (i : ℕ) → matrixPlace (p .n) ≤ i → i < roomOf p → getD ws i nan ≡ 0·0
 
 -- what is written among the joints and the root leaves the entries
-pub blank-kept : (p : Plan) {ws ws′ : List Float} → Outside 0 (matrixPlace (p .n)) ws ws′ → Blank p ws → Blank p ws′
+blank-kept : (p : Plan) {ws ws′ : List Float} → Outside 0 (matrixPlace (p .n)) ws ws′ → Blank p ws → Blank p ws′
 blank-kept p o b i h g = o .kept i (λ x y. omega arith) ∙ b i h g
 
 -- ---- the beginning
@@ -46,7 +46,7 @@ module _ (p : Plan) (m : Model) (q : List Float) (ws : List Float) (room : roomO
   abbrev zeros : List Float
   zeros = zeroTo ws (matrixPlace (p .n)) (p .side * p .side)
 
-  pub begun-blank : Blank p (begunOf p (m .links) 0 ws)
+  begun-blank : Blank p (begunOf p (m .links) 0 ws)
   unfolding begunOf
   begun-blank = go (eqb (p .lead) 0)
     where
@@ -54,7 +54,7 @@ module _ (p : Plan) (m : Model) (q : List Float) (ws : List Float) (room : roomO
       go true i h g = zeroed ws (matrixPlace (p .n)) (p .side * p .side) room i h g
       go false i h g = putComposite-outside zeros (rootPlace (p .n)) (linkOf (m .links) 0) .kept i (λ x y. omega arith) ∙ zeroed ws (matrixPlace (p .n)) (p .side * p .side) room i h g
 
-  pub begun-holds : Holds p (armOf m q) 0 (linkOf (m .links)) (begunOf p (m .links) 0 ws)
+  begun-holds : Holds p (armOf m q) 0 (linkOf (m .links)) (begunOf p (m .links) 0 ws)
   unfolding begunOf
   begun-holds = go (eqb (p .lead) 0) (λ t. eqb-true (p .lead) 0 t)
     where
@@ -91,10 +91,10 @@ module _ (p : Plan) (m : Model) (q : List Float) (j : ℕ) (ws : List Float) whe
       (both (wider (putFrame-outside ws (framePlace j) (frameOn j)) (omega arith) (omega arith))
       (wider (putComposite-outside framed (compositePlace j) (linkOf (m .links) (suc j))) (omega arith) (omega arith)))
 
-  pub frame-blank : j < p .n → Blank p ws → Blank p (frameVisit (m .parents) (m .kinds) (m .origins) (m .axes) (m .links) q j ws)
+  frame-blank : j < p .n → Blank p ws → Blank p (frameVisit (m .parents) (m .kinds) (m .origins) (m .axes) (m .links) q j ws)
   frame-blank h b = blank-kept p (wider frame-outside (omega arith) (omega arith)) b
 
-  pub frame-holds : j < p .n → Holds p (armOf m q) j (linkOf (m .links)) ws → Holds p (armOf m q) (suc j) (linkOf (m .links)) (frameVisit (m .parents) (m .kinds) (m .origins) (m .axes) (m .links) q j ws)
+  frame-holds : j < p .n → Holds p (armOf m q) j (linkOf (m .links)) ws → Holds p (armOf m q) (suc j) (linkOf (m .links)) (frameVisit (m .parents) (m .kinds) (m .origins) (m .axes) (m .links) q j ws)
   frame-holds h s =
       let o = frame-outside in
       let l1 = length-putFrame ws (framePlace j) (frameOn j) in
@@ -117,7 +117,7 @@ module _ (p : Plan) (m : Model) (q : List Float) (j : ℕ) (ws : List Float) whe
 
 -- ---- composite visits
 
-pub meant : (p : Plan) (a : Arm) (k : ℕ) (c d : ℕ → Link) (ws : List Float) → ((l : ℕ) → c l ≡ d l) → Holds p a k c ws → Holds p a k d ws
+meant : (p : Plan) (a : Arm) (k : ℕ) (c d : ℕ → Link) (ws : List Float) → ((l : ℕ) → c l ≡ d l) → Holds p a k c ws → Holds p a k d ws
 meant p a k c d ws e s = record {
   room = s .room;
   frames = s .frames;
@@ -171,7 +171,7 @@ module _ (p : Plan) (a : Arm) (c : ℕ → Link) (j : ℕ) (ws : List Float) (s 
   added-not : (l : ℕ) → (a .parent j ≡ l → ⊥) → added a c j l ≡ c l
   added-not l e = rw (ne-eqb (a .parent j) l e)
 
-  pub composite-holds : Holds p a (p .n) (added a c j) (compositeVisit p (a .parent j) j ws)
+  composite-holds : Holds p a (p .n) (added a c j) (compositeVisit p (a .parent j) j ws)
   unfolding compositeVisit addInto
   composite-holds = go (eqb (a .parent j) 0) (eqb (p .lead) 0) (eqb-true (a .parent j) 0) (eqb-false (a .parent j) 0) (eqb-true (p .lead) 0) (eqb-false (p .lead) 0)
     where
@@ -198,7 +198,7 @@ module _ (p : Plan) (a : Arm) (c : ℕ → Link) (j : ℕ) (ws : List Float) (s 
       go true false = wider (putComposite-outside ws (rootPlace (p .n)) _) (omega arith) (omega arith)
       go false b′ = wider (putComposite-outside ws (compositePlace (a .parent j - 1)) _) (omega arith) (omega arith)
 
-  pub composite-blank : Blank p ws → Blank p (compositeVisit p (a .parent j) j ws)
+  composite-blank : Blank p ws → Blank p (compositeVisit p (a .parent j) j ws)
   composite-blank = blank-kept p composite-outside
 
 -- at joint j = n - 1 - i, whose composite is whole by then, that is one more joint gathered

@@ -35,7 +35,7 @@ module _ (a b : Arm) (joints : a .n ≡ b .n) (tree : (j : ℕ) → j < a .n →
 
 module _ (a : Arm) (below : (j : ℕ) → j < a .n → a .parent j ≤ j) where
   -- joints below l stand on no link l, so nothing is added after the first n - l
-  pub gather-stays : (f : ℕ → Link) (l i d : ℕ) → i + d ≤ a .n → a .n ≤ i + l → gather a f (i + d) l ≡ gather a f i l
+  gather-stays : (f : ℕ → Link) (l i d : ℕ) → i + d ≤ a .n → a .n ≤ i + l → gather a f (i + d) l ≡ gather a f i l
   unfolding gather
   gather-stays f l i zero h g = rw add-zero
   gather-stays f l i (suc d) h g =

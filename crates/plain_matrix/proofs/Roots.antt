@@ -33,7 +33,7 @@ use Rattle.matrix_visits.proofs.Filled.{loads-done}
 use Rattle.plain_matrix.specs.PlainMatrix.{jointWith, jointEntry, baseEntry, cornerEntry, entryAt}
 
 -- each number below the count is the number of its joint
-pub with-number : (kinds : List ℕ) (n k : ℕ) → k < activesOf kinds n → Numbered kinds n k (jointWith kinds n k)
+with-number : (kinds : List ℕ) (n k : ℕ) → k < activesOf kinds n → Numbered kinds n k (jointWith kinds n k)
 unfolding jointWith
 with-number kinds n k h = let (j, found, named) = numbered kinds n k h in rw found named
 
