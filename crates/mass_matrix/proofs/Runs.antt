@@ -24,7 +24,7 @@ module _ (p : Plan) (r : Quaternion) (m : Model) (q : List Float) where
   last = p .n + p .n + (p .side - p .lead)
 
   -- the workspace after k visits
-  raw : ℕ → List Float → List Float
+  pub raw : ℕ → List Float → List Float
   raw zero ws = ws
   raw (suc k) ws = visitOf p r m q k (raw k ws) .1
 
