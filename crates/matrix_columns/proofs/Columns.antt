@@ -14,7 +14,7 @@ use Rattle.numbers.specs.Double.{0·0}
 use Rattle.numbers.specs.declared.quaternion.Quaternion.{Quaternion}
 use Rattle.spatial.specs.Wrench.{rotatedOf}
 use Rattle.spatial.specs.declared.wrench.Wrench.{Wrench}
-use Rattle.slots.proofs.Blocks.{split}
+use Rattle.slots.proofs.Blocks.{split, or-less}
 use Rattle.arm.specs.Joint.{withRotor}
 use Rattle.arm.specs.Topology.{activesOf, activeNumbers}
 use Rattle.arm.specs.declared.model.Link.{Link}
@@ -38,9 +38,6 @@ same-or-not i j = go (eqb i j) (eqb-true i j) (eqb-false i j)
     go : (b : Bool) → (b ≡ true → i ≡ j) → (b ≡ false → i ≡ j → ⊥) → (i ≡ j) ⊎ (i ≡ j → ⊥)
     go true e f = inl (e refl)
     go false e f = inr (f refl)
-
-or-less : (c x : ℕ) → x < suc c → (x ≡ c) ⊎ (x < c)
-or-less c x g = eq-or-lt-of-le (omega arith)
 
 -- ---- the base's rows of one column
 

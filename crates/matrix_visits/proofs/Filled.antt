@@ -1,9 +1,8 @@
 -- The column visits, and the base's own six columns: what the matrix holds after them. Assumes nothing.
 use mathlib.Core.List.{List}
-use mathlib.Core.Logic.{_⊎_, ⊎-elim}
+use mathlib.Core.Logic.{⊎-elim}
 use mathlib.Core.Path.{_≡_, refl, ap, _∙_}
 use Prim.Native.Nat.{ℕ, zero, suc, _+_, _-_, _≤_, _<_}
-use native.Mathlib.Nat.{eq-or-lt-of-le}
 use native.Mathlib.Omega.{arith}
 use borrow.Author.Tests.{le-ltb}
 use lib.ListN.{length, getD}
@@ -12,7 +11,7 @@ use Rattle.numbers.specs.declared.quaternion.Quaternion.{Quaternion}
 use Rattle.spatial.specs.declared.wrench.Wrench.{Wrench}
 use Rattle.slots.specs.Slots.{wrenchAt, putWrench}
 use Rattle.slots.proofs.Lengths.{length-putWrench}
-use Rattle.slots.proofs.Blocks.{putWrench-outside}
+use Rattle.slots.proofs.Blocks.{or-less, putWrench-outside}
 use Rattle.slots.proofs.Puts.{wrench-put}
 use Rattle.arm.specs.Topology.{activesOf, activeNumbers, Numbered}
 use Rattle.arm.specs.declared.model.Link.{Link}
@@ -117,11 +116,8 @@ module _ (p : Plan) (r : Quaternion) (root : Link) (ws : List Float) (wide : 6 �
         sized = length-putWrench t (placeOf p 0 k) v ∙ s .sized;
         corner = λ row column f g. ⊎-elim
             (λ (e : column ≡ k). let there : placeOf p row k ≡ placeOf p 0 k + row = omega arith in rw (e, there) (number-put t (placeOf p 0 k) v (omega arith) row f))
-            (λ g′. o .kept (placeOf p row column) (λ a b. let e = in-column row column k (omega arith) a b in omega (arith, e .1)) ∙ s .corner row column f g′) (or-less column g);
+            (λ g′. o .kept (placeOf p row column) (λ a b. let e = in-column row column k (omega arith) a b in omega (arith, e .1)) ∙ s .corner row column f g′) (or-less k column g);
         other = λ row column f g e.
             o .kept (placeOf p row column) (λ a b. let d = in-column row column k f a b in e (d .0) (omega (arith, d .1)))
             ∙ s .other row column f g (λ a b. e a (omega arith));
       }
-    where
-      or-less : (i : ℕ) → i < suc k → (i ≡ k) ⊎ (i < k)
-      or-less i g = eq-or-lt-of-le (omega arith)

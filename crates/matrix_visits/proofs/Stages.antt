@@ -1,10 +1,9 @@
 -- The visits before the columns: what each composite holds while its children are added, from the highest joint to the lowest. Assumes nothing.
 use mathlib.Core.Bool.{Bool, true, false, cond}
 use mathlib.Core.List.{List}
-use mathlib.Core.Logic.{_⊎_, ⊎-elim}
+use mathlib.Core.Logic.{⊎-elim}
 use mathlib.Core.Path.{_≡_, refl, sym, ap, _∙_}
 use Prim.Native.Nat.{ℕ, zero, suc, _+_, _-_, _*_, _≤_, _<_}
-use native.Mathlib.Nat.{eq-or-lt-of-le}
 use native.Mathlib.Numerals.{add-one}
 use native.Mathlib.Omega.{arith}
 use borrow.Author.Tests.{eqb-true, eqb-false, eq-eqb, ne-eqb, lt-ltb, le-ltb}
@@ -16,7 +15,7 @@ use Rattle.numbers.specs.declared.quaternion.Quaternion.{Quaternion}
 use Rattle.spatial.specs.declared.frame.Frame.{Frame}
 use Rattle.slots.specs.Slots.{frameAt, putFrame, zeroTo}
 use Rattle.slots.proofs.Lengths.{length-putFrame, length-zeroTo}
-use Rattle.slots.proofs.Blocks.{Outside, wider, before, behind, both, untouched, split, putFrame-outside, frame-same}
+use Rattle.slots.proofs.Blocks.{Outside, wider, before, behind, both, untouched, split, or-less, putFrame-outside, frame-same}
 use Rattle.slots.proofs.Puts.{frame-put, zeroed}
 use Rattle.arm.specs.Model.{linkOf, Tree}
 use Rattle.arm.specs.Topology.{jointFrame}
@@ -105,15 +104,12 @@ module _ (p : Plan) (m : Model) (q : List Float) (j : ℕ) (ws : List Float) whe
         frames = λ i g. ⊎-elim
             (λ (e : i ≡ j). rw (e, frame-visit) (frame-same framed _ (framePlace j) (before (putComposite-outside framed (compositePlace j) (linkOf (m .links) (suc j))) (framePlace j) 7 (omega arith))
             ∙ frame-put ws (framePlace j) (frameOn j) (omega arith)))
-            (λ g′. frame-same ws _ (framePlace i) (before o (framePlace i) 7 (omega arith)) ∙ s .frames i g′) (at-or-below i g);
+            (λ g′. frame-same ws _ (framePlace i) (before o (framePlace i) 7 (omega arith)) ∙ s .frames i g′) (or-less j i g);
         composites = λ i g. ⊎-elim
             (λ (e : i ≡ j). rw (e, frame-visit) (composite-put framed (compositePlace j) (linkOf (m .links) (suc j)) (omega arith)))
-            (λ g′. composite-same ws _ (compositePlace i) (before o (compositePlace i) 13 (omega arith)) ∙ s .composites i g′) (at-or-below i g);
+            (λ g′. composite-same ws _ (compositePlace i) (before o (compositePlace i) 13 (omega arith)) ∙ s .composites i g′) (or-less j i g);
         base = λ z. composite-same ws _ (rootPlace (p .n)) (behind o (rootPlace (p .n)) 13 (omega arith)) ∙ s .base z;
       }
-    where
-      at-or-below : (i : ℕ) → i < suc j → (i ≡ j) ⊎ (i < j)
-      at-or-below i g = eq-or-lt-of-le (omega arith)
 
 -- ---- composite visits
 
@@ -149,13 +145,10 @@ module _ (p : Plan) (a : Arm) (c d : ℕ → Link) (ws : List Float) (s : Holds 
         composites = λ i g. ⊎-elim
             (λ x. ⊎-elim
             (λ (y : i ≡ u). rw y (composite-put ws (compositePlace u) v (omega arith) ∙ sym e))
-            (λ y. composite-same ws _ (compositePlace i) (before o (compositePlace i) 13 (omega arith)) ∙ s .composites i g ∙ sym (f (suc i) (λ z. omega arith))) (at-or-below i x))
+            (λ y. composite-same ws _ (compositePlace i) (before o (compositePlace i) 13 (omega arith)) ∙ s .composites i g ∙ sym (f (suc i) (λ z. omega arith))) (or-less u i x))
             (λ x. composite-same ws _ (compositePlace i) (behind o (compositePlace i) 13 (omega arith)) ∙ s .composites i g ∙ sym (f (suc i) (λ z. omega arith))) (split i (suc u));
         base = λ z. composite-same ws _ (rootPlace (p .n)) (behind o (rootPlace (p .n)) 13 (omega arith)) ∙ s .base z ∙ sym (f 0 (λ z. omega arith));
       }
-    where
-      at-or-below : (i : ℕ) → i < suc u → (i ≡ u) ⊎ (i < u)
-      at-or-below i g = eq-or-lt-of-le (omega arith)
 
 -- joint j's composite goes to the link that it stands on
 abbrev pub added : Arm → (ℕ → Link) → ℕ → ℕ → Link

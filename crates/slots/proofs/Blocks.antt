@@ -4,6 +4,7 @@ use mathlib.Core.List.{List, [], _∷_, _++_}
 use mathlib.Core.Logic.{_⊎_, inl, inr}
 use mathlib.Core.Path.{_≡_, refl, _∙_}
 use Prim.Native.Nat.{ℕ, zero, suc, _+_, _≤_, _<_}
+use native.Mathlib.Nat.{eq-or-lt-of-le}
 use native.Mathlib.Omega.{arith}
 use borrow.Author.Tests.{ltb-true, ltb-false}
 use lib.Dec.{ltb}
@@ -55,6 +56,10 @@ split i u = go (ltb i u) refl
     go : (b : Bool) → ltb i u ≡ b → (i < u) ⊎ (u ≤ i)
     go true e = inl (ltb-true i u e)
     go false e = inr (ltb-false i u e)
+
+-- one of the first k + 1 is the last of them, or before it
+pub or-less : (k i : ℕ) → i < suc k → (i ≡ k) ⊎ (i < k)
+or-less k i h = eq-or-lt-of-le (omega arith)
 
 -- ---- writers
 
