@@ -20,7 +20,11 @@ same-length c = search needs
 
 returns : tie.Need-returns
 unfolding addRotor
-returns c = cc
+returns c =
+    let b2 = c .before .before in
+    let b3 = b2 .before in
+    let b5 = b3 .before .before in
+    simp (b2 .put-number .ensures, b3 .with-rotor .ensures, b5 .number-at .ensures, b5 .before .before .place .ensures .0)
 
 pub add-rotor-spec : {M : Type 1} → statement M
 add-rotor-spec =
