@@ -11,6 +11,7 @@ use Rattle.numbers.specs.Mat3 as mat3
 use Rattle.mat6.specs.Mat6 as mat6
 use Rattle.numbers.specs.Quaternion as quaternion
 use Rattle.square_root.specs.SquareRoot as root
+use Rattle.numbers.specs.Table.{tab}
 use Rattle.numbers.specs.Vec3 as vec3
 use Rattle.refusals.specs.Refusals as refusals
 use Rattle.spatial.specs.Frame as frame
@@ -48,11 +49,13 @@ use Rattle.mass_matrix.specs.MassMatrix as matrix
 use Rattle.plain_entries.specs.Gather as gather
 use Rattle.plain_entries.specs.Entries as entries
 use Rattle.plain_matrix.specs.PlainMatrix as plain
+use Rattle.standing.specs.Tree as tests
+use Rattle.standing.specs.Standing as stands
 use Rattle.composites.specs.Plan as sizes
 use Rattle.matrix_columns.specs.Walk as walk
 use Rattle.forward_dynamics.specs.Checks as inputs
 use Rattle.forward_dynamics.specs.ForwardDynamics as dynamics
-use Rattle.claims.specs.Cases.{twelve, masses, loads as added, turns, rotors, plain as plainly, Hold}
+use Rattle.claims.specs.Cases.{twelve, masses, loads as added, turns, rotors, plain as plainly, standing, Hold}
 
 -- ---- what computes: to unfold one of these is to unfold all that its line names
 
@@ -79,6 +82,10 @@ open-matrix = Unit {0}
 open-plain : Type 0
 unfolding gather.gather gather.compositeTo entries.along entries.toRoot entries.numberOf plain.jointWith plain.jointEntry plain.baseEntry plain.cornerEntry plain.entryAt plain.plainEntries plain.plainMatrix plain.plainVerdict plain.plainCall
 open-plain = Unit {0}
+
+open-standing : Type 0
+unfolding tab plan.planBy plain.jointWith tests.carriesIn stands.reframed stands.compositeTouched stands.ownTouched stands.pathTouched stands.standsBetween stands.jointMark stands.markAt stands.marksOf stands.standsVerdict stands.standsCall
+open-standing = Unit {0}
 
 open-articulated : Type 0
 unfolding inertia.fromBlocks inertia.rigidOf inertia.inertiaApply inertia.signedColumn inertia.unit inertia.alongOf inertia.inertiaApplyJoint inertia.subspaceOf inertia.averageOf solve.rootOr solve.aboveTo solve.scaleOf solve.scaledOf solve.dividedOf solve.differenceOf solve.overOf solve.columnSum solve.normTo solve.sizeOf solve.basis solve.nextNorm solve.inverseTo solve.residualOf solve.nearOf solve.checkedOf solve.solutionOf solve.conditionedOf solve.factoredOf solve.baseSolve first.bodyInertia first.biasForce first.firstOf base.rootVelocity base.gravityLocal base.fixedAcceleration base.rightSide base.worldAcceleration base.judgedBase base.solvedBase base.baseOf second.termOf second.judgedTerm third.carriedAcceleration third.jointAcceleration third.movedBy
@@ -121,3 +128,7 @@ rotor-cases = refl
 pub plain-cases : Hold plainly
 unfolding plainly open-numbers open-spatial open-arm open-calls open-matrix open-plain
 plain-cases = refl
+
+pub standing-cases : Hold standing
+unfolding standing open-arm open-standing
+standing-cases = refl

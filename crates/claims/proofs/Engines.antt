@@ -34,7 +34,7 @@ module _ (mode : Mode) (m m′ : Model) (q q′ ws out out′ : List Float) wher
       ∙ same-but-10 mode m q ws out (λ z. f (ap (λ (x : Result). x .0 .outcome) ex ∙ ap (λ (s : Outcome × List Float). s .0) z))
       ∙ (λ k. plainCall mode (em k) (eq k) (eo k)) ∙ sym ey
 
-as-matrix : (c : Calculation) (mode : Mode) (m : Model) (i : Inputs) (ws out : List Float) → c ≡ Matrix mode → wholeOf (workOf c m i) ws out ≡ wholeOf (massMatrix mode m (i .q)) ws out
+pub as-matrix : (c : Calculation) (mode : Mode) (m : Model) (i : Inputs) (ws out : List Float) → c ≡ Matrix mode → wholeOf (workOf c m i) ws out ≡ wholeOf (massMatrix mode m (i .q)) ws out
 as-matrix c mode m i ws out e = ap (λ (c : Calculation). wholeOf (workOf c m i) ws out) e
 
 pub engines-agree : SameAnswer {T = Question} {S = Outcome × List Float} whole.Post plain.Post

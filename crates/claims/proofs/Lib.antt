@@ -5,3 +5,4 @@ pub mod Cases
 pub mod Rotorless
 pub mod Rotors
 pub mod Engines
+pub mod Standing

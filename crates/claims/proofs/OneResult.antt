@@ -1,8 +1,10 @@
 -- The contract of each public call allows one result, in the answer and in every number lent to be written. Assumes nothing.
+use mathlib.Core.Bool.{Bool}
 use mathlib.Core.List.{List}
 use mathlib.Core.Path.{_≡_, sym, ap, _∙_}
 use lib.Ieee.{Float}
 use denote.Ref.{now}
+use Rattle.refusals.specs.declared.Verdict.{Verdict}
 use Rattle.calls.specs.Position.{Result}
 use Rattle.calls.specs.declared.position.Answer.{Answer}
 use Rattle.calls.specs.declared.position.Outcome.{Outcome}
@@ -14,6 +16,8 @@ use Rattle.dynamics.proofs.start.Reads as start
 use Rattle.dynamics.proofs.portion.Reads as portion
 use Rattle.dynamics.proofs.whole.Reads as whole
 use Rattle.plain_matrix.proofs.plain_matrix.Reads as plain-matrix
+use Rattle.standing.proofs.marks_room.Reads as marks-room
+use Rattle.standing.proofs.stands.Reads as stands
 use Rattle.claims.specs.OneResult.{OneResult}
 
 -- what equals one thing is one
@@ -51,3 +55,10 @@ whole-one κs a r s e f = one-result
 -- the outcome and the output of the plain matrix
 pub plain-matrix-one : OneResult {S = Outcome × List Float} plain-matrix.Post (λ κs r e. (r, now (e .1 .1 .1 .1 .1 .1 .1 .1 .1 .0)))
 plain-matrix-one κs a r s e f = one-result
+
+-- how many marks there are, and the verdict and the marks
+pub marks-room-one : OneResult marks-room.Post (λ κs r e. r)
+marks-room-one κs a r s e f d h = one-result (d .0) (h .0)
+
+pub stands-one : OneResult {S = Verdict × List Bool} stands.Post (λ κs r e. (r, now (e .1 .1 .1 .1 .1 .1 .1 .1 .0)))
+stands-one κs a r s e f = one-result

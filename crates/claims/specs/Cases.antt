@@ -1,5 +1,6 @@
--- The twelve small cases of document 01, and of document 02 the masses of item 9, the loads of item 3, the turns of item 6, the rotors of item 11 and the plain engine of item 10: what is asked, by the definitions of the calls, and what is to be told. Definitions only.
+-- The twelve small cases of document 01, and of document 02 the masses of item 9, the loads of item 3, the turns of item 6, the rotors of item 11, the plain engine of item 10 and the entries that stand of item 7: what is asked, by the definitions of the calls, and what is to be told. Definitions only.
 -- "Unless said: identity origins and root rotation, fixed root, other numbers zero."
+use mathlib.Core.Bool.{Bool, true, false, cond}
 use mathlib.Core.List.{List, [], _∷_, _++_, map}
 use mathlib.Core.Path.{_≡_}
 use Prim.Native.Nat.{ℕ, _+_, _*_}
@@ -33,6 +34,7 @@ use Rattle.calls.specs.declared.position.Outcome.the-variants as outcome
 use Rattle.mass_matrix.specs.MassMatrix.{massMatrix}
 use Rattle.mass_matrix.specs.declared.mass_matrix.Mode.the-variants as matrix
 use Rattle.plain_matrix.specs.PlainMatrix.{plainCall}
+use Rattle.standing.specs.Standing.{Changes, changes, standsCall}
 use Rattle.forward_dynamics.specs.ForwardDynamics.{forwardDynamics}
 use Rattle.forward_slots.specs.Loads.{loadOf}
 use Rattle.forward_visits.specs.Inputs.{inputsBy}
@@ -67,6 +69,11 @@ abbrev pub ofOutcome : Outcome → List Float → Told
 ofOutcome Open v = unanswered
 ofOutcome Accepted v = given (patterns v)
 ofOutcome (outcome.Refused number p) v = refused number p (patterns v)
+
+-- marks as numbers
+abbrev pub ofMarks : Verdict → List Bool → Told
+ofMarks Fine marks = given (map (λ b. cond b 1 0) marks)
+ofMarks (verdict.Refused number p) marks = refused number p (map (λ b. cond b 1 0) marks)
 
 -- ---- the arms
 
@@ -299,6 +306,33 @@ plain =
     ∷ (plainAt (zeros 2) 3 (twoSlides 1 2·0 3·0), refused 17 Nothing (replicate 3 0x3ff0_0000_0000_0000))
     -- the second reader's arm (docs/READING.md): 106, -15, 5, -15, 5.5, 0, 5, 0, 2
     ∷ (plainAt (0·0 ∷ 2·0 ∷ 0·0 ∷ []) 9 read, given (0x405a_8000_0000_0000 ∷ 0xc02e_0000_0000_0000 ∷ 0x4014_0000_0000_0000 ∷ 0xc02e_0000_0000_0000 ∷ 0x4016_0000_0000_0000 ∷ 0 ∷ 0x4014_0000_0000_0000 ∷ 0 ∷ 0x4000_0000_0000_0000 ∷ []))
+    ∷ []
+
+-- document 02, item 7: an arm whose first joint carries a fixed one with a turn on it, and a slide beside them (docs/CONTRACTS.md)
+abbrev standsFor : Bool → ℕ → Changes → ℕ → Told
+standsFor floating n c room = let a = standsCall floating n (0 ∷ 1 ∷ 2 ∷ 1 ∷ []) (0 ∷ 2 ∷ 0 ∷ 1 ∷ []) c (replicate room false) in ofMarks (a .0) (a .1)
+
+-- flag i alone
+abbrev flag : ℕ → List Bool
+flag i = replicate i false ++ true ∷ []
+
+unfoldable pub standing : List (Told × Told)
+standing =
+    -- link 3 weighed again; the root's link
+    (standsFor false 4 (changes (flag 3) [] [] []) 9, given (0 ∷ 0 ∷ 1 ∷ 0 ∷ 0 ∷ 1 ∷ 1 ∷ 1 ∷ 1 ∷ []))
+    ∷ (standsFor false 4 (changes (flag 0) [] [] []) 9, given (replicate 9 1))
+    -- joint 2 moved; joint 0, whose own frame counts for nothing
+    ∷ (standsFor false 4 (changes [] (flag 2) [] []) 9, given (0 ∷ 0 ∷ 1 ∷ 0 ∷ 1 ∷ 1 ∷ 1 ∷ 1 ∷ 1 ∷ []))
+    ∷ (standsFor false 4 (changes [] (flag 0) [] []) 9, given (replicate 9 1))
+    -- joint 2's axis, its rotor, and both of the fixed joint
+    ∷ (standsFor false 4 (changes [] [] (flag 2) []) 9, given (0 ∷ 0 ∷ 1 ∷ 0 ∷ 0 ∷ 1 ∷ 1 ∷ 1 ∷ 1 ∷ []))
+    ∷ (standsFor false 4 (changes [] [] [] (flag 2)) 9, given (1 ∷ 1 ∷ 1 ∷ 1 ∷ 0 ∷ 1 ∷ 1 ∷ 1 ∷ 1 ∷ []))
+    ∷ (standsFor false 4 (changes [] [] (flag 1) (flag 1)) 9, given (replicate 9 1))
+    -- on a floating root, the first joint alone, with the root's link weighed again: of the base nothing is said
+    ∷ (standsFor true 1 (changes (flag 0) [] [] []) 49, given (replicate 48 0 ++ 1 ∷ []))
+    -- what is refused: 33 joints, and 8 marks
+    ∷ (standsFor false 33 (changes [] [] [] []) 2, refused 9 Nothing (0 ∷ 0 ∷ []))
+    ∷ (standsFor false 4 (changes [] [] [] []) 8, refused 17 Nothing (replicate 8 0))
     ∷ []
 
 -- each is told as expected

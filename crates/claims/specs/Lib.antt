@@ -4,3 +4,4 @@ pub mod Settled
 pub mod Rotorless
 pub mod Rotors
 pub mod Engines
+pub mod Standing

@@ -1,2 +1,3 @@
 pub mod Depths
 pub mod Ups
+pub mod Rests

@@ -1,3 +1,4 @@
 pub mod Arm
 pub mod Gather
 pub mod Entries
+pub mod Rests

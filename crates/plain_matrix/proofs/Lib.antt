@@ -1,5 +1,6 @@
 pub mod Listed
 pub mod Roots
+pub mod Stored
 pub mod Equal
 pub mod Verdicts
 pub mod Called

@@ -33,7 +33,7 @@ use Rattle.matrix_visits.proofs.Filled.{loads-done}
 use Rattle.plain_matrix.specs.PlainMatrix.{jointWith, jointEntry, baseEntry, cornerEntry, entryAt}
 
 -- each number below the count is the number of its joint
-with-number : (kinds : List ℕ) (n k : ℕ) → k < activesOf kinds n → Numbered kinds n k (jointWith kinds n k)
+pub with-number : (kinds : List ℕ) (n k : ℕ) → k < activesOf kinds n → Numbered kinds n k (jointWith kinds n k)
 unfolding jointWith
 with-number kinds n k h = let (j, found, named) = numbered kinds n k h in rw found named
 
@@ -51,7 +51,7 @@ pub not-found : (kinds : List ℕ) (n k : ℕ) → k < activesOf kinds n → {fo
 not-found kinds n k h e f = let (j, there, named) = numbered kinds n k h in let z : At j ≡ Nothing = sym there ∙ sym e ∙ f in let y : _≡_ {A = ℕ} 0 1 = cc in omega arith
 
 -- joints in the order of their active numbers
-ordered : (kinds : List ℕ) (I J : ℕ) → Active kinds J → activesOf kinds I ≤ activesOf kinds J → I ≤ J
+pub ordered : (kinds : List ℕ) (I J : ℕ) → Active kinds J → activesOf kinds I ≤ activesOf kinds J → I ≤ J
 ordered kinds I J f h = ⊎-elim (λ g. absurd (omega (arith, actives-below kinds I J g f))) (λ g. g) (split J I)
 
 module _ (p : Plan) (r : Quaternion) (m : Model) (q : List Float) where

@@ -18,7 +18,7 @@ use plain_entries::gather;
 use refusals::Place;
 
 // The joint of active number k.
-fn joint_with<'a>(kinds: &'a [u8; 32], numbers: &'a [u8; 33], n: usize, k: usize) -> usize
+pub fn joint_with<'a>(kinds: &'a [u8; 32], numbers: &'a [u8; 33], n: usize, k: usize) -> usize
     requires { ⌜ (now numbers ≡ activeNumbers (now kinds)) × (n ≤ 32) × (k < activesOf (now kinds) n) ⌝ }
     ensures { λ r. ⌜ (r ≡ jointWith (now (kinds .entry)) n k) × (r < n) ⌝ }
 {

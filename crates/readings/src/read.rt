@@ -104,7 +104,7 @@ pub fn kind_of(w: &[u8]) -> Named
 }
 
 // 0 or 1.
-fn next_flag(s: &[u8], c: Cursor) -> NextFlag
+pub fn next_flag(s: &[u8], c: Cursor) -> NextFlag
     requires { ⌜ c .at ≤ length (now s) ⌝ }
     ensures { λ r. ⌜ ReadBy flag (now (s .entry)) c (flagOf r) ⌝ }
 {

@@ -10,11 +10,12 @@ use Rattle.writings.specs.Column.{columnRequest}
 use Rattle.readings.specs.Read.{kindNamed}
 use Rattle.calculation_requests.specs.Request.{calculateRequest, repeatRequest, resumeRequest}
 use Rattle.plain_requests.specs.Request.{plainRequest}
+use Rattle.standing_requests.specs.Request.{standsRequest}
 use Rattle.calculations.specs.declared.make.How.the-variants.{Times}
 use Rattle.readings.specs.declared.read.Named.{Named}
 use Rattle.readings.specs.declared.read.Named.the-variants.{Is, No}
 use Rattle.requests.specs.declared.answer.Name.{Name}
-use Rattle.requests.specs.declared.answer.Name.the-variants.{Model, Lend, Calculation, Plain, Column, Root, Repeat, Resume, HalfTurn, Unknown}
+use Rattle.requests.specs.declared.answer.Name.the-variants.{Model, Lend, Calculation, Plain, Stands, Column, Root, Repeat, Resume, HalfTurn, Unknown}
 use Rattle.replies.specs.Replies.{replyOf}
 use Rattle.model_requests.specs.Lend.{lendRequest}
 use Rattle.model_requests.specs.Model.{modelRequest}
@@ -37,7 +38,8 @@ nameOf w =
     (cond (sameOf w (bytes "half_turn")) HalfTurn
     (cond (sameOf w (bytes "plain_matrix")) (Plain false)
     (cond (sameOf w (bytes "plain_floating_matrix")) (Plain true)
-    (kindName (kindNamed w))))))))))
+    (cond (sameOf w (bytes "stands")) Stands
+    (kindName (kindNamed w)))))))))))
 
 -- a request that keeps the current model
 abbrev pub keeping : Arm → Reader (List ℕ) → Reader (List ℕ × Arm)
@@ -51,6 +53,7 @@ namedRequest m Model = modelRequest
 namedRequest m Lend = lendRequest
 namedRequest m (Calculation k) = keeping m (calculateRequest m (Times 1) k)
 namedRequest m (Plain floating) = keeping m (plainRequest m floating)
+namedRequest m Stands = keeping m (standsRequest m)
 namedRequest m Column = keeping m columnRequest
 namedRequest m Root = keeping m rootRequest
 namedRequest m Repeat = keeping m (repeatRequest m)

@@ -20,6 +20,7 @@ use replies::Reply;
 use replies::error;
 use routine_requests::routines::half_turn;
 use routine_requests::routines::root;
+use standing_requests::request::standing;
 use words::read::Cursor;
 use words::read::next_word;
 use words::read::same;
@@ -32,6 +33,7 @@ pub enum Name {
     Calculation(Kind),
     // Whether the root floats.
     Plain(bool),
+    Stands,
     Column,
     Root,
     Repeat,
@@ -70,6 +72,9 @@ fn name_of(w: &[u8]) -> Name
     if same(w, b"plain_floating_matrix") {
         return Name::Plain(true);
     }
+    if same(w, b"stands") {
+        return Name::Stands;
+    }
     match kind_of(w) {
         Named::Is(k) => Name::Calculation(k),
         Named::No => Name::Unknown,
@@ -94,6 +99,10 @@ fn request(m: Model, s: &[u8], out: &mut [u8], at: usize) -> Reply
         }
         Name::Plain(floating) => {
             let end = plain(m, floating, s, c, out, at);
+            Reply { end, model: m }
+        }
+        Name::Stands => {
+            let end = standing(m, s, c, out, at);
             Reply { end, model: m }
         }
         Name::Column => {

@@ -6,6 +6,7 @@ use borrow.Author.Needs.{needs}
 use Rattle.writings.specs.Column.{columnRequest}
 use Rattle.calculation_requests.specs.Request.{calculateRequest, repeatRequest, resumeRequest}
 use Rattle.plain_requests.specs.Request.{plainRequest}
+use Rattle.standing_requests.specs.Request.{standsRequest}
 use Rattle.routine_requests.specs.Routines.{rootRequest, halfTurnRequest}
 use Rattle.requests.proofs.answer.Laws.{request-is, kept}
 use Rattle.requests.proofs.answer.request.Statement.{statement}
@@ -66,35 +67,41 @@ plain-requires c κs = search needs
 enum-told-3 : tie.Need-enum-told-3
 enum-told-3 c = search needs
 
-column-requires : tie.Need-column-requires
-column-requires c κs = search needs
+standing-requires : tie.Need-standing-requires
+standing-requires c κs = search needs
 
 enum-told-4 : tie.Need-enum-told-4
 enum-told-4 c = search needs
 
-repeat-requires : tie.Need-repeat-requires
-repeat-requires c κs = search needs
+column-requires : tie.Need-column-requires
+column-requires c κs = search needs
 
 enum-told-5 : tie.Need-enum-told-5
 enum-told-5 c = search needs
 
-resume-requires : tie.Need-resume-requires
-resume-requires c κs = search needs
+repeat-requires : tie.Need-repeat-requires
+repeat-requires c κs = search needs
 
 enum-told-6 : tie.Need-enum-told-6
 enum-told-6 c = search needs
 
-root-requires : tie.Need-root-requires
-root-requires c κs = search needs
+resume-requires : tie.Need-resume-requires
+resume-requires c κs = search needs
 
 enum-told-7 : tie.Need-enum-told-7
 enum-told-7 c = search needs
 
-half-turn-requires : tie.Need-half-turn-requires
-half-turn-requires c κs = search needs
+root-requires : tie.Need-root-requires
+root-requires c κs = search needs
 
 enum-told-8 : tie.Need-enum-told-8
 enum-told-8 c = search needs
+
+half-turn-requires : tie.Need-half-turn-requires
+half-turn-requires c κs = search needs
+
+enum-told-9 : tie.Need-enum-told-9
+enum-told-9 c = search needs
 
 error-requires : tie.Need-error-requires
 error-requires c κs = search needs
@@ -127,37 +134,43 @@ same-length-5 : tie.Need-same-length-5
 same-length-5 c = search needs
 
 returns-5 : tie.Need-returns-5
-returns-5 c = let b2 = c .before .before in let b4 = b2 .before .before in let b6 = b4 .before .before in let b8 = b6 .before .before in let b11 = b8 .before .before .before in (b2 .column .ensures .0, b2 .column .ensures .1, rw (← request-is (b11 .args .m) _ (b8 .next-word .ensures .1) (sym (b4 .enum-told3 .given .1) ∙ b6 .name-of .ensures)) (kept (b11 .args .m) (take (b11 .args .at) (b11 .args .out .now)) (columnRequest _) (b2 .column .ensures .2)))
+returns-5 c = let b2 = c .before .before in let b4 = b2 .before .before in let b6 = b4 .before .before in let b8 = b6 .before .before in let b11 = b8 .before .before .before in (b2 .standing .ensures .0, b2 .standing .ensures .1, rw (← request-is (b11 .args .m) _ (b8 .next-word .ensures .1) (sym (b4 .enum-told3 .given .1) ∙ b6 .name-of .ensures)) (kept (b11 .args .m) (take (b11 .args .at) (b11 .args .out .now)) (standsRequest _ _) (b2 .standing .ensures .2)))
 
 same-length-6 : tie.Need-same-length-6
 same-length-6 c = search needs
 
 returns-6 : tie.Need-returns-6
-returns-6 c = let b2 = c .before .before in let b4 = b2 .before .before in let b6 = b4 .before .before in let b8 = b6 .before .before in let b11 = b8 .before .before .before in (b2 .repeat .ensures .0, b2 .repeat .ensures .1, rw (← request-is (b11 .args .m) _ (b8 .next-word .ensures .1) (sym (b4 .enum-told4 .given .1) ∙ b6 .name-of .ensures)) (kept (b11 .args .m) (take (b11 .args .at) (b11 .args .out .now)) (repeatRequest _ _) (b2 .repeat .ensures .2)))
+returns-6 c = let b2 = c .before .before in let b4 = b2 .before .before in let b6 = b4 .before .before in let b8 = b6 .before .before in let b11 = b8 .before .before .before in (b2 .column .ensures .0, b2 .column .ensures .1, rw (← request-is (b11 .args .m) _ (b8 .next-word .ensures .1) (sym (b4 .enum-told4 .given .1) ∙ b6 .name-of .ensures)) (kept (b11 .args .m) (take (b11 .args .at) (b11 .args .out .now)) (columnRequest _) (b2 .column .ensures .2)))
 
 same-length-7 : tie.Need-same-length-7
 same-length-7 c = search needs
 
 returns-7 : tie.Need-returns-7
-returns-7 c = let b2 = c .before .before in let b4 = b2 .before .before in let b6 = b4 .before .before in let b8 = b6 .before .before in let b11 = b8 .before .before .before in (b2 .resume .ensures .0, b2 .resume .ensures .1, rw (← request-is (b11 .args .m) _ (b8 .next-word .ensures .1) (sym (b4 .enum-told5 .given .1) ∙ b6 .name-of .ensures)) (kept (b11 .args .m) (take (b11 .args .at) (b11 .args .out .now)) (resumeRequest _ _) (b2 .resume .ensures .2)))
+returns-7 c = let b2 = c .before .before in let b4 = b2 .before .before in let b6 = b4 .before .before in let b8 = b6 .before .before in let b11 = b8 .before .before .before in (b2 .repeat .ensures .0, b2 .repeat .ensures .1, rw (← request-is (b11 .args .m) _ (b8 .next-word .ensures .1) (sym (b4 .enum-told5 .given .1) ∙ b6 .name-of .ensures)) (kept (b11 .args .m) (take (b11 .args .at) (b11 .args .out .now)) (repeatRequest _ _) (b2 .repeat .ensures .2)))
 
 same-length-8 : tie.Need-same-length-8
 same-length-8 c = search needs
 
 returns-8 : tie.Need-returns-8
-returns-8 c = let b2 = c .before .before in let b4 = b2 .before .before in let b6 = b4 .before .before in let b8 = b6 .before .before in let b11 = b8 .before .before .before in (b2 .root .ensures .0, b2 .root .ensures .1, rw (← request-is (b11 .args .m) _ (b8 .next-word .ensures .1) (sym (b4 .enum-told6 .given .1) ∙ b6 .name-of .ensures)) (kept (b11 .args .m) (take (b11 .args .at) (b11 .args .out .now)) (rootRequest _) (b2 .root .ensures .2)))
+returns-8 c = let b2 = c .before .before in let b4 = b2 .before .before in let b6 = b4 .before .before in let b8 = b6 .before .before in let b11 = b8 .before .before .before in (b2 .resume .ensures .0, b2 .resume .ensures .1, rw (← request-is (b11 .args .m) _ (b8 .next-word .ensures .1) (sym (b4 .enum-told6 .given .1) ∙ b6 .name-of .ensures)) (kept (b11 .args .m) (take (b11 .args .at) (b11 .args .out .now)) (resumeRequest _ _) (b2 .resume .ensures .2)))
 
 same-length-9 : tie.Need-same-length-9
 same-length-9 c = search needs
 
 returns-9 : tie.Need-returns-9
-returns-9 c = let b2 = c .before .before in let b4 = b2 .before .before in let b6 = b4 .before .before in let b8 = b6 .before .before in let b11 = b8 .before .before .before in (b2 .half-turn .ensures .0, b2 .half-turn .ensures .1, rw (← request-is (b11 .args .m) _ (b8 .next-word .ensures .1) (sym (b4 .enum-told7 .given .1) ∙ b6 .name-of .ensures)) (kept (b11 .args .m) (take (b11 .args .at) (b11 .args .out .now)) (halfTurnRequest _) (b2 .half-turn .ensures .2)))
+returns-9 c = let b2 = c .before .before in let b4 = b2 .before .before in let b6 = b4 .before .before in let b8 = b6 .before .before in let b11 = b8 .before .before .before in (b2 .root .ensures .0, b2 .root .ensures .1, rw (← request-is (b11 .args .m) _ (b8 .next-word .ensures .1) (sym (b4 .enum-told7 .given .1) ∙ b6 .name-of .ensures)) (kept (b11 .args .m) (take (b11 .args .at) (b11 .args .out .now)) (rootRequest _) (b2 .root .ensures .2)))
 
 same-length-10 : tie.Need-same-length-10
 same-length-10 c = search needs
 
 returns-10 : tie.Need-returns-10
-returns-10 c = let b2 = c .before .before in let b4 = b2 .before .before in let b6 = b4 .before .before in let b8 = b6 .before .before in let b11 = b8 .before .before .before in (b2 .error .ensures .0, b2 .error .ensures .1, rw (← request-is (b11 .args .m) _ (b8 .next-word .ensures .1) (sym (b4 .enum-told8 .given .1) ∙ b6 .name-of .ensures)) (kept (b11 .args .m) (take (b11 .args .at) (b11 .args .out .now)) none (b2 .error .ensures .2)))
+returns-10 c = let b2 = c .before .before in let b4 = b2 .before .before in let b6 = b4 .before .before in let b8 = b6 .before .before in let b11 = b8 .before .before .before in (b2 .half-turn .ensures .0, b2 .half-turn .ensures .1, rw (← request-is (b11 .args .m) _ (b8 .next-word .ensures .1) (sym (b4 .enum-told8 .given .1) ∙ b6 .name-of .ensures)) (kept (b11 .args .m) (take (b11 .args .at) (b11 .args .out .now)) (halfTurnRequest _) (b2 .half-turn .ensures .2)))
+
+same-length-11 : tie.Need-same-length-11
+same-length-11 c = search needs
+
+returns-11 : tie.Need-returns-11
+returns-11 c = let b2 = c .before .before in let b4 = b2 .before .before in let b6 = b4 .before .before in let b8 = b6 .before .before in let b11 = b8 .before .before .before in (b2 .error .ensures .0, b2 .error .ensures .1, rw (← request-is (b11 .args .m) _ (b8 .next-word .ensures .1) (sym (b4 .enum-told9 .given .1) ∙ b6 .name-of .ensures)) (kept (b11 .args .m) (take (b11 .args .at) (b11 .args .out .now)) none (b2 .error .ensures .2)))
 
 pub request-spec : {M : Type 1} → statement M
 request-spec =
@@ -177,16 +190,18 @@ request-spec =
     enum-known-name-2
     plain-requires
     enum-told-3
-    column-requires
+    standing-requires
     enum-told-4
-    repeat-requires
+    column-requires
     enum-told-5
-    resume-requires
+    repeat-requires
     enum-told-6
-    root-requires
+    resume-requires
     enum-told-7
-    half-turn-requires
+    root-requires
     enum-told-8
+    half-turn-requires
+    enum-told-9
     error-requires
     same-length
     returns
@@ -207,4 +222,6 @@ request-spec =
     same-length-9
     returns-9
     same-length-10
-    returns-10)
+    returns-10
+    same-length-11
+    returns-11)
