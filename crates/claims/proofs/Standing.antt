@@ -1,6 +1,7 @@
 -- WHICH NUMBERS AN ENTRY RESTS ON, of the matrices that the public calls accept, on either root; and the marks keep their word (document 02, item 7). Assumes nothing.
 use mathlib.Core.Bool.{Bool, true, false, not, cond, _&&_}
 use mathlib.Core.List.{List}
+use mathlib.Core.Logic.{⊎-elim}
 use mathlib.Core.Path.{_≡_, refl, sym, ap, _∙_}
 use Prim.Native.Nat.{ℕ, suc, _*_, _≤_, _<_}
 use native.Mathlib.Omega.{arith}
@@ -16,9 +17,10 @@ use Rattle.refusals.specs.declared.Verdict.{Verdict}
 use Rattle.refusals.specs.declared.Verdict.the-variants.{Fine, Refused}
 use Rattle.refusals.proofs.Flags.{neither}
 use Rattle.slots.specs.Slots.{vec3At}
+use Rattle.slots.proofs.Blocks.{split}
 use Rattle.arm.specs.Joint.{isFixed, motionBy, frameOf}
 use Rattle.arm.specs.Model.{bundle, parentOf, kindOf, motionOf, jointOf, Tree}
-use Rattle.arm.specs.Topology.{activesOf, activeNumbers}
+use Rattle.arm.specs.Topology.{activesOf}
 use Rattle.arm.specs.declared.model.Model.{Model}
 use Rattle.calls.specs.Plan.{planBy, planOf}
 use Rattle.calls.specs.Position.{Result, wholeOf}
@@ -26,82 +28,100 @@ use Rattle.calls.specs.declared.plan.Plan.{Plan}
 use Rattle.calls.specs.declared.position.Outcome.{Outcome}
 use Rattle.calls.specs.declared.position.Outcome.the-variants.{Accepted}
 use Rattle.calls.specs.declared.position.Outcome.the-variants as outcome
-use Rattle.calls.proofs.Pairs.{accepted-fine}
 use Rattle.plain_entries.specs.Arm.{armOf}
 use Rattle.plain_entries.specs.Entries.{entryBetween}
 use Rattle.plain_entries.specs.Rests.{Carries, Agree}
 use Rattle.plain_entries.proofs.Rests.{entry-rests, unrelated}
 use Rattle.mass_matrix.specs.MassMatrix.{massMatrix, floats, rotationOf}
 use Rattle.mass_matrix.specs.declared.mass_matrix.Mode.{Mode}
-use Rattle.mass_matrix.proofs.Ready.{plan-ready}
+use Rattle.mass_matrix.specs.declared.mass_matrix.Mode.the-variants.{Fixed}
 use Rattle.plain_matrix.specs.PlainMatrix.{unless, plainVerdict, plainEntries, plainMatrix, plainCall}
-use Rattle.plain_matrix.proofs.Equal.{same-but-10}
+use Rattle.plain_matrix.proofs.Equal.{seen, same-but-10}
+use Rattle.plain_matrix.proofs.Verdicts.{passed}
 use Rattle.plain_matrix.proofs.Stored.{list-here, list-there}
 use Rattle.standing.specs.Standing.{Changes, changes, another, reframed, standsBetween, marksOf, markedBy, standsCall}
 use Rattle.standing.specs.Kept.{Kept}
 use Rattle.standing.proofs.Trees.{carries-le}
 use Rattle.standing.proofs.Marked.{actives-same, marked-same}
-use Rattle.claims.specs.Rotors.{Accepts, matrixOf}
 use Rattle.standing.proofs.stands.Reads as stands
+use Rattle.forward_visits.specs.Inputs.{Inputs}
+use Rattle.dynamics.specs.Calculation.{workOf}
+use Rattle.dynamics.specs.declared.calculation.Calculation.{Calculation}
+use Rattle.dynamics.specs.declared.calculation.Calculation.the-variants.{Matrix, Forward}
 use Rattle.dynamics.proofs.whole.Reads as whole
-use Rattle.claims.specs.Standing.{stored, OneTree, SameBut, Telling, Tells, MarksKeep}
+use Rattle.plain_matrix.proofs.plain_matrix.Reads as plain
+use Rattle.claims.specs.Standing.{stored, Active, OneTree, SameBut, StoredEntries, Telling, Tells, MarksKeep}
 use Rattle.claims.proofs.Engines.{as-matrix}
 
--- ---- an accepted matrix
+-- ---- an accepted matrix, of either engine
 
-module _ (mode : Mode) (m : Model) (q ws out : List Float) (a : Accepts mode m q ws out) where
-  abbrev plan : Plan
-  plan = planOf (floats mode) (m .n) (m .kinds)
+-- it is the plain list, of a model that passed the checks
+record Made (mode : Mode) (m : Model) (q matrix : List Float) : Type 0 where
+  written : matrix ≡ plainEntries (armOf m q) (planOf (floats mode) (m .n) (m .kinds)) (rotationOf mode) (m .kinds)
+  tree : Tree (m .n) (m .parents)
 
+module _ (mode : Mode) (m : Model) (q out : List Float) where
   abbrev entries : List Float
-  entries = plainEntries (armOf m q) plan (rotationOf mode) (m .kinds)
+  entries = plainEntries (armOf m q) (planOf (floats mode) (m .n) (m .kinds)) (rotationOf mode) (m .kinds)
+
+  abbrev verdict : Verdict
+  verdict = plainVerdict (floats mode) (rotationOf mode) (m .n) (m .parents) (m .kinds) q (length out)
 
   plain-entries : (v : Verdict) (b : Bool) → unless v out (cond b (Accepted, entries) (outcome.Refused 37 Nothing, out)) .0 ≡ Accepted
-      → unless v out (cond b (Accepted, entries) (outcome.Refused 37 Nothing, out)) .1 ≡ entries
-  plain-entries Fine true z = refl
+      → (v ≡ Fine) × (unless v out (cond b (Accepted, entries) (outcome.Refused 37 Nothing, out)) .1 ≡ entries)
+  plain-entries Fine true z = (refl, refl)
   plain-entries Fine false z = let y : _≡_ {A = ℕ} 0 1 = cc in absurd (omega arith)
   plain-entries (Refused number i) b z = let y : _≡_ {A = ℕ} 0 1 = cc in absurd (omega arith)
 
-  -- it is the plain list
-  written : matrixOf mode m q ws out ≡ entries
+  made : plainCall mode m q out .0 ≡ Accepted → Made mode m q (plainCall mode m q out .1)
   unfolding plainCall plainMatrix
-  written =
-      let e = same-but-10 mode m q ws out (λ z. let f : Accepted ≡ outcome.Refused 10 Nothing = sym a ∙ ap (λ (x : Outcome × List Float). x .0) z in let y : _≡_ {A = ℕ} 0 1 = cc in omega arith) in
-      ap (λ (x : Outcome × List Float). x .1) e
-      ∙ plain-entries (plainVerdict (floats mode) (rotationOf mode) (m .n) (m .parents) (m .kinds) q (length out)) (allFinite entries) (ap (λ (x : Outcome × List Float). x .0) (sym e) ∙ a)
+  made a =
+      let e = plain-entries verdict (allFinite entries) a in
+      record { written = e .1; tree = passed (floats mode) (rotationOf mode) (m .n) (m .parents) (m .kinds) q (length out) (e .0) .tree }
 
-  -- its model passed the checks
-  tree : Tree (m .n) (m .parents)
-  unfolding massMatrix planBy
-  tree = plan-ready (floats mode) (rotationOf mode) (m .n) (m .parents) (m .kinds) q (length ws) (length out) (accepted-fine (massMatrix mode m q) ws out a) (activeNumbers (m .kinds)) _ plan refl refl refl .fit .good .tree
+  by-plain : {x : Outcome × List Float} → x ≡ plainCall mode m q out → x .0 ≡ Accepted → Made mode m q (x .1)
+  by-plain {x = x} e a = rw e (made (ap (λ (y : Outcome × List Float). y .0) (sym e) ∙ a))
 
-  module _ (J I : ℕ) (h : J < m .n) (l : I ≤ J) (f : kindOf (m .kinds) J ≡ 2 → ⊥) (g : kindOf (m .kinds) I ≡ 2 → ⊥) where
-    -- both mirrored places have the plain entry
-    here : stored mode m (matrixOf mode m q ws out) I J ≡ entryBetween (armOf m q) J I
-    unfolding stored planBy
-    here = rw written (list-here (armOf m q) plan (rotationOf mode) (m .kinds) refl refl J I h l f g)
+  by-fast : (ws : List Float) {x : Result} → x ≡ wholeOf (massMatrix mode m q) ws out → x .0 .outcome ≡ Accepted → Made mode m q (x .2)
+  by-fast ws e a =
+      by-plain
+      (ap seen e ∙ same-but-10 mode m q ws out (λ z. let f : Accepted ≡ outcome.Refused 10 Nothing = sym a ∙ ap (λ (y : Result). y .0 .outcome) e ∙ ap (λ (y : Outcome × List Float). y .0) z in let y : _≡_ {A = ℕ} 0 1 = cc in omega arith))
+      a
 
-    there : stored mode m (matrixOf mode m q ws out) J I ≡ entryBetween (armOf m q) J I
-    unfolding stored planBy
-    there = rw written (list-there (armOf m q) plan (rotationOf mode) (m .kinds) refl refl J I h l f g)
+module _ (mode : Mode) (m : Model) (q matrix : List Float) (a : Made mode m q matrix) (J I : ℕ) (h : J < m .n) (l : I ≤ J) (f : Active m J) (g : Active m I) where
+  -- both mirrored places have the plain entry
+  here : stored mode m matrix I J ≡ entryBetween (armOf m q) J I
+  unfolding stored planBy
+  here = rw (a .written) (list-here (armOf m q) (planOf (floats mode) (m .n) (m .kinds)) (rotationOf mode) (m .kinds) refl refl J I h l f g)
 
-    -- MIRRORED places among joints have equal bits
-    pub mirrored : stored mode m (matrixOf mode m q ws out) I J ≡ stored mode m (matrixOf mode m q ws out) J I
-    mirrored = here ∙ sym there
+  there : stored mode m matrix J I ≡ entryBetween (armOf m q) J I
+  unfolding stored planBy
+  there = rw (a .written) (list-there (armOf m q) (planOf (floats mode) (m .n) (m .kinds)) (rotationOf mode) (m .kinds) refl refl J I h l f g)
 
-    -- joints of which neither carries the other: +0.0
-    pub nothing : (Carries (m .n) (parentOf (m .parents)) (suc I) (suc J) → ⊥) → stored mode m (matrixOf mode m q ws out) I J ≡ 0·0
-    nothing apart = here ∙ unrelated (armOf m q) (tree .below) I J h apart
+  -- so joints of which neither carries the other have +0.0 in both
+  apart : (Carries (m .n) (parentOf (m .parents)) (suc I) (suc J) → ⊥) → entryBetween (armOf m q) J I ≡ 0·0
+  apart c = unrelated (armOf m q) (a .tree .below) I J h c
 
--- THE ENTRY STANDS where all that it rests on agrees, whatever else is another, the root too
-module _ (mode mode′ : Mode) (m m′ : Model) (q q′ ws ws′ out out′ : List Float) (a : Accepts mode m q ws out) (b : Accepts mode′ m′ q′ ws′ out′) (one : OneTree m m′) where
-  pub entry-stands : (J I : ℕ) → J < m .n → (kindOf (m .kinds) J ≡ 2 → ⊥) → (kindOf (m .kinds) I ≡ 2 → ⊥) → Carries (m .n) (parentOf (m .parents)) (suc I) (suc J)
-      → Agree (armOf m q) (armOf m′ q′) J I → stored mode m (matrixOf mode m q ws out) I J ≡ stored mode′ m′ (matrixOf mode′ m′ q′ ws′ out′) I J
-  entry-stands J I h f g c s =
-      let l : I ≤ J = omega (arith, carries-le (m .n) (parentOf (m .parents)) (tree mode m q ws out a .below) c) in
-      here mode m q ws out a J I h l f g
-      ∙ entry-rests (armOf m q) (armOf m′ q′) (tree mode m q ws out a .below) J I h c s
-      ∙ sym (here mode′ m′ q′ ws′ out′ b J I (omega (arith, one .joints)) l (λ z. f (one .kinds J h ∙ z)) (λ z. g (one .kinds I (omega arith) ∙ z)))
+-- the entry stands where all that it rests on agrees, whatever else is another, the root too
+entry-stands : (mode mode′ : Mode) (m m′ : Model) (q q′ matrix matrix′ : List Float) → Made mode m q matrix → Made mode′ m′ q′ matrix′ → OneTree m m′
+    → (J I : ℕ) → J < m .n → Active m J → Active m I → Carries (m .n) (parentOf (m .parents)) (suc I) (suc J) → Agree (armOf m q) (armOf m′ q′) J I
+    → stored mode m matrix I J ≡ stored mode′ m′ matrix′ I J
+entry-stands mode mode′ m m′ q q′ matrix matrix′ a b one J I h f g c s =
+    let l : I ≤ J = omega (arith, carries-le (m .n) (parentOf (m .parents)) (a .tree .below) c) in
+    here mode m q matrix a J I h l f g
+    ∙ entry-rests (armOf m q) (armOf m′ q′) (a .tree .below) J I h c s
+    ∙ sym (here mode′ m′ q′ matrix′ b J I (omega (arith, one .joints)) l (λ z. f (one .kinds J h ∙ z)) (λ z. g (one .kinds I (omega arith) ∙ z)))
+
+module _ (mode : Mode) (m : Model) (q matrix : List Float) (a : Made mode m q matrix) (J I : ℕ) (j : J < m .n) (i : I < m .n) (f : Active m J) (g : Active m I) where
+  same-mirrored : stored mode m matrix I J ≡ stored mode m matrix J I
+  same-mirrored =
+      ⊎-elim (λ h. there mode m q matrix a I J i (omega arith) g f ∙ sym (here mode m q matrix a I J i (omega arith) g f))
+      (λ h. here mode m q matrix a J I j h f g ∙ sym (there mode m q matrix a J I j h f g)) (split J I)
+
+  no-entry : (Carries (m .n) (parentOf (m .parents)) (suc I) (suc J) → ⊥) → (Carries (m .n) (parentOf (m .parents)) (suc J) (suc I) → ⊥) → stored mode m matrix I J ≡ 0·0
+  no-entry c d =
+      ⊎-elim (λ h. there mode m q matrix a I J i (omega arith) g f ∙ apart mode m q matrix a I J i (omega arith) g f d)
+      (λ h. here mode m q matrix a J I j h f g ∙ apart mode m q matrix a J I j h f g c) (split J I)
 
 -- ---- what was not told is kept in the arms of two models
 
@@ -137,7 +157,7 @@ module _ (c : Changes) (m m′ : Model) (q q′ : List Float) (s : SameBut c m m
 
 -- ---- the marks
 
-module _ (mode mode′ : Mode) (m m′ : Model) (q q′ ws ws′ out out′ : List Float) (a : Accepts mode m q ws out) (b : Accepts mode′ m′ q′ ws′ out′) (c : Changes) (s : SameBut c m m′ q q′) (root : floats mode ≡ floats mode′) where
+module _ (mode mode′ : Mode) (m m′ : Model) (q q′ matrix matrix′ : List Float) (a : Made mode m q matrix) (b : Made mode′ m′ q′ matrix′) (c : Changes) (s : SameBut c m m′ q q′) (root : floats mode ≡ floats mode′) where
   one-plan : planOf (floats mode′) (m′ .n) (m′ .kinds) ≡ planOf (floats mode) (m .n) (m .kinds)
   one-plan =
       let e = actives-same (m .n) (m .kinds) (m′ .kinds) (s .tree .kinds) (m .n) (omega arith) in
@@ -147,43 +167,84 @@ module _ (mode mode′ : Mode) (m m′ : Model) (q q′ ws ws′ out out′ : Li
   abbrev marks : List Bool
   marks = marksOf (planOf (floats mode) (m .n) (m .kinds)) (m .kinds) (standsBetween (m .n) (m .parents) (m .kinds) c)
 
-  marked : (t : ℕ) → t < length marks → another marks t ≡ true → getD (matrixOf mode m q ws out) t nan ≡ getD (matrixOf mode′ m′ q′ ws′ out′) t nan
+  marked : (t : ℕ) → t < length marks → another marks t ≡ true → getD matrix t nan ≡ getD matrix′ t nan
   unfolding marksOf planBy
   marked t h e =
       let p = planOf (floats mode) (m .n) (m .kinds) in
       let l : t < p .side * p .side = rw (length-tab _ (p .side * p .side)) at h in
-      ap (λ (x : List Float). getD x t nan) (written mode m q ws out a)
-      ∙ marked-same (m .n) (m .parents) (m .kinds) c (tree mode m q ws out a) (armOf m q) (armOf m′ q′) (kept c m m′ q q′ s) (m′ .kinds) (s .tree .kinds) p refl refl (rotationOf mode) (rotationOf mode′) t l (sym (getD-tab _ false (p .side * p .side) t l) ∙ e)
+      ap (λ (x : List Float). getD x t nan) (a .written)
+      ∙ marked-same (m .n) (m .parents) (m .kinds) c (a .tree) (armOf m q) (armOf m′ q′) (kept c m m′ q q′ s) (m′ .kinds) (s .tree .kinds) p refl refl (rotationOf mode) (rotationOf mode′) t l (sym (getD-tab _ false (p .side * p .side) t l) ∙ e)
       ∙ ap (λ (p : Plan). getD (plainEntries (armOf m′ q′) p (rotationOf mode′) (m′ .kinds)) t nan) (sym one-plan)
-      ∙ ap (λ (x : List Float). getD x t nan) (sym (written mode′ m′ q′ ws′ out′ b))
+      ∙ ap (λ (x : List Float). getD x t nan) (sym (b .written))
+
+  -- marks that were not refused are those of the definition
+  made-marks : (floating : Bool) (n : ℕ) (parents kinds : List ℕ) (lent : List Bool) {z : Verdict × List Bool} → z ≡ standsCall floating n parents kinds c lent → z .0 ≡ Fine
+      → z .1 ≡ marksOf (planOf floating n kinds) kinds (standsBetween n parents kinds c)
+  unfolding standsCall
+  made-marks floating n parents kinds lent e f =
+      ap (λ (x : Verdict × List Bool). x .1) e
+      ∙ ap (λ (v : Verdict). markedBy v lent (marksOf (planOf floating n kinds) kinds (standsBetween n parents kinds c))) (ap (λ (x : Verdict × List Bool). x .0) (sym e) ∙ f)
+
+-- asked in this order: whether the root floats, n, parents, kinds, what was told
+told-marked : (mode mode′ : Mode) (m m′ : Model) (q q′ matrix matrix′ : List Float) (told : Telling) (lent : List Bool) → Made mode m q matrix → Made mode′ m′ q′ matrix′
+    → {z : Verdict × List Bool} → z ≡ standsCall (told .0) (told .1) (told .2) (told .3) (told .4) lent → Tells mode mode′ m told → z .0 ≡ Fine → SameBut (told .4) m m′ q q′
+    → (t : ℕ) → t < length (z .1) → another (z .1) t ≡ true → getD matrix t nan ≡ getD matrix′ t nan
+told-marked mode mode′ m m′ q q′ matrix matrix′ told lent a b {z = z} ez tells v s t h e =
+    let root = tells .root .0 ∙ sym (tells .root .1) in
+    let w : z .1 ≡ marksOf (planOf (floats mode) (m .n) (m .kinds)) (m .kinds) (standsBetween (m .n) (m .parents) (m .kinds) (told .4)) =
+    made-marks mode mode′ m m′ q q′ matrix matrix′ a b (told .4) s root (told .0) (told .1) (told .2) (told .3) lent ez v
+    ∙ (λ k. let n = sym (tells .tree .0) k in let kinds = sym (tells .tree .2) k in marksOf (planOf (sym (tells .root .0) k) n kinds) kinds (standsBetween n (sym (tells .tree .1) k) kinds (told .4))) in
+    marked mode mode′ m m′ q q′ matrix matrix′ a b (told .4) s root t (rw w at h) (rw w at e)
 
 -- ---- over the contracts
 
--- marks that were not refused are those of the definition
-made-marks : (floating : Bool) (n : ℕ) (parents kinds : List ℕ) (c : Changes) (lent : List Bool) {z : Verdict × List Bool} → z ≡ standsCall floating n parents kinds c lent → z .0 ≡ Fine
-    → z .1 ≡ marksOf (planOf floating n kinds) kinds (standsBetween n parents kinds c)
-unfolding standsCall
-made-marks floating n parents kinds c lent e f =
-    ap (λ (x : Verdict × List Bool). x .1) e
-    ∙ ap (λ (v : Verdict). markedBy v lent (marksOf (planOf floating n kinds) kinds (standsBetween n parents kinds c))) (ap (λ (x : Verdict × List Bool). x .0) (sym e) ∙ f)
+-- the fast engine's call
+module _ (c : Calculation) (mode : Mode) (m : Model) (i : Inputs) (ws out : List Float) {x : Result} where
+  whole-made : x ≡ wholeOf (workOf c m i) ws out → c ≡ Matrix mode → x .0 .outcome ≡ Accepted → Made mode m (i .q) (x .2)
+  whole-made p d = by-fast mode m (i .q) out ws (p ∙ as-matrix c mode m i ws out d)
 
-module _ (mode mode′ : Mode) (m m′ : Model) (q q′ ws ws′ out out′ : List Float) (c : Changes) (told : Telling) (lent : List Bool) where
-  joined : {x y : Result} {z : Verdict × List Bool} → x ≡ wholeOf (massMatrix mode m q) ws out → y ≡ wholeOf (massMatrix mode′ m′ q′) ws′ out′
-      → z ≡ standsCall (told .0) (told .1) (told .2) (told .3) c lent → Tells mode mode′ m told → x .0 .outcome ≡ Accepted → y .0 .outcome ≡ Accepted → z .0 ≡ Fine → SameBut c m m′ q q′
-      → (t : ℕ) → t < length (z .1) → another (z .1) t ≡ true → getD (x .2) t nan ≡ getD (y .2) t nan
-  joined {x = x} {y = y} {z = z} ex ey ez tells a b v s t h e =
-      let w : z .1 ≡ marksOf (planOf (floats mode) (m .n) (m .kinds)) (m .kinds) (standsBetween (m .n) (m .parents) (m .kinds) c) =
-      made-marks (told .0) (told .1) (told .2) (told .3) c lent ez v
-      ∙ (λ k. let n = sym (tells .tree .0) k in let kinds = sym (tells .tree .2) k in marksOf (planOf (sym (tells .root .0) k) n kinds) kinds (standsBetween n (sym (tells .tree .1) k) kinds c)) in
-      ap (λ (r : Result). getD (r .2) t nan) ex
-      ∙ marked mode mode′ m m′ q q′ ws ws′ out out′ (ap (λ (r : Result). r .0 .outcome) (sym ex) ∙ a) (ap (λ (r : Result). r .0 .outcome) (sym ey) ∙ b) c s (tells .root .0 ∙ sym (tells .root .1)) t (rw w at h) (rw w at e)
-      ∙ ap (λ (r : Result). getD (r .2) t nan) (sym ey)
+pub whole-entries : StoredEntries whole.Post
+    (λ κs a. (a .0, bundle (a .1 .0) (now (a .1 .1 .0)) (now (a .1 .1 .1 .0)) (now (a .1 .1 .1 .1 .0)) (now (a .1 .1 .1 .1 .1 .0)) (now (a .1 .1 .1 .1 .1 .1 .0)) (now (a .1 .1 .1 .1 .1 .1 .1 .0)), now (a .1 .1 .1 .1 .1 .1 .1 .1 .0)))
+    (λ κs r e. (r .outcome, now (e .1 .1 .1 .1 .1 .1 .1 .1 .1 .1 .1 .1 .1 .1 .0)))
+whole-entries =
+    record {
+      stands = λ κs λs a b r s e f p q mode mode′ d d′ u v. entry-stands mode mode′ _ _ _ _ _ _ (whole-made (a .0) mode _ _ _ _ p d u) (whole-made (b .0) mode′ _ _ _ _ q d′ v);
+      mirrored = λ κs a r e p mode d u. same-mirrored mode _ _ _ (whole-made (a .0) mode _ _ _ _ p d u);
+      nothing = λ κs a r e p mode d u. no-entry mode _ _ _ (whole-made (a .0) mode _ _ _ _ p d u);
+    }
 
 pub marked-stands : MarksKeep whole.Post stands.Post
     (λ κs a. (a .0, bundle (a .1 .0) (now (a .1 .1 .0)) (now (a .1 .1 .1 .0)) (now (a .1 .1 .1 .1 .0)) (now (a .1 .1 .1 .1 .1 .0)) (now (a .1 .1 .1 .1 .1 .1 .0)) (now (a .1 .1 .1 .1 .1 .1 .1 .0)), now (a .1 .1 .1 .1 .1 .1 .1 .1 .0)))
     (λ κs r e. (r .outcome, now (e .1 .1 .1 .1 .1 .1 .1 .1 .1 .1 .1 .1 .1 .1 .0)))
     (λ κs c. (c .0, c .1 .0, now (c .1 .1 .0), now (c .1 .1 .1 .0), changes (now (c .1 .1 .1 .1 .0)) (now (c .1 .1 .1 .1 .1 .0)) (now (c .1 .1 .1 .1 .1 .1 .0)) (now (c .1 .1 .1 .1 .1 .1 .1 .0))))
     (λ κs v g. (v, now (g .1 .1 .1 .1 .1 .1 .1 .1 .0)))
-marked-stands κs λs μs a b c r s v e f g p q w mode mode′ d d′ tells =
-    joined mode mode′ _ _ _ _ _ _ _ _ _ (c .0, c .1 .0, now (c .1 .1 .0), now (c .1 .1 .1 .0), changes (now (c .1 .1 .1 .1 .0)) (now (c .1 .1 .1 .1 .1 .0)) (now (c .1 .1 .1 .1 .1 .1 .0)) (now (c .1 .1 .1 .1 .1 .1 .1 .0))) _
-    (p ∙ as-matrix (a .0) mode _ _ _ _ d) (q ∙ as-matrix (b .0) mode′ _ _ _ _ d′) w tells
+marked-stands κs λs μs a b c r s v e f g p q w mode mode′ d d′ tells u u′ =
+    told-marked mode mode′ _ _ _ _ _ _ (c .0, c .1 .0, now (c .1 .1 .0), now (c .1 .1 .1 .0), changes (now (c .1 .1 .1 .1 .0)) (now (c .1 .1 .1 .1 .1 .0)) (now (c .1 .1 .1 .1 .1 .1 .0)) (now (c .1 .1 .1 .1 .1 .1 .1 .0))) _ (whole-made (a .0) mode _ _ _ _ p d u) (whole-made (b .0) mode′ _ _ _ _ q d′ u′) w tells
+
+-- ---- and the plain one's
+
+abbrev matrixMode : Calculation → Mode
+matrixMode (Matrix mode) = mode
+matrixMode (Forward mode) = Fixed
+
+module _ (own mode : Mode) (m : Model) (q out : List Float) {x : Outcome × List Float} where
+  plain-made : x ≡ plainCall own m q out → Matrix own ≡ Matrix mode → x .0 ≡ Accepted → Made mode m q (x .1)
+  plain-made p d = by-plain mode m q out (p ∙ ap (λ (k : Mode). plainCall k m q out) (ap matrixMode d))
+
+pub plain-matrix-entries : StoredEntries plain.Post
+    (λ κs a. (Matrix (a .0), bundle (a .1 .0) (now (a .1 .1 .0)) (now (a .1 .1 .1 .0)) (now (a .1 .1 .1 .1 .0)) (now (a .1 .1 .1 .1 .1 .0)) (now (a .1 .1 .1 .1 .1 .1 .0)) (now (a .1 .1 .1 .1 .1 .1 .1 .0)), now (a .1 .1 .1 .1 .1 .1 .1 .1 .0)))
+    (λ κs r e. (r, now (e .1 .1 .1 .1 .1 .1 .1 .1 .1 .0)))
+plain-matrix-entries =
+    record {
+      stands = λ κs λs a b r s e f p q mode mode′ d d′ u v. entry-stands mode mode′ _ _ _ _ _ _ (plain-made (a .0) mode _ _ _ p d u) (plain-made (b .0) mode′ _ _ _ q d′ v);
+      mirrored = λ κs a r e p mode d u. same-mirrored mode _ _ _ (plain-made (a .0) mode _ _ _ p d u);
+      nothing = λ κs a r e p mode d u. no-entry mode _ _ _ (plain-made (a .0) mode _ _ _ p d u);
+    }
+
+pub plain-marked-stands : MarksKeep plain.Post stands.Post
+    (λ κs a. (Matrix (a .0), bundle (a .1 .0) (now (a .1 .1 .0)) (now (a .1 .1 .1 .0)) (now (a .1 .1 .1 .1 .0)) (now (a .1 .1 .1 .1 .1 .0)) (now (a .1 .1 .1 .1 .1 .1 .0)) (now (a .1 .1 .1 .1 .1 .1 .1 .0)), now (a .1 .1 .1 .1 .1 .1 .1 .1 .0)))
+    (λ κs r e. (r, now (e .1 .1 .1 .1 .1 .1 .1 .1 .1 .0)))
+    (λ κs c. (c .0, c .1 .0, now (c .1 .1 .0), now (c .1 .1 .1 .0), changes (now (c .1 .1 .1 .1 .0)) (now (c .1 .1 .1 .1 .1 .0)) (now (c .1 .1 .1 .1 .1 .1 .0)) (now (c .1 .1 .1 .1 .1 .1 .1 .0))))
+    (λ κs v g. (v, now (g .1 .1 .1 .1 .1 .1 .1 .1 .0)))
+plain-marked-stands κs λs μs a b c r s v e f g p q w mode mode′ d d′ tells u u′ =
+    told-marked mode mode′ _ _ _ _ _ _ (c .0, c .1 .0, now (c .1 .1 .0), now (c .1 .1 .1 .0), changes (now (c .1 .1 .1 .1 .0)) (now (c .1 .1 .1 .1 .1 .0)) (now (c .1 .1 .1 .1 .1 .1 .0)) (now (c .1 .1 .1 .1 .1 .1 .1 .0))) _ (plain-made (a .0) mode _ _ _ p d u) (plain-made (b .0) mode′ _ _ _ q d′ u′) w tells

@@ -2,9 +2,10 @@
 use mathlib.Core.Bool.{Bool, true, false}
 use mathlib.Core.List.{List}
 use mathlib.Core.Path.{_≡_}
-use Prim.Native.Nat.{ℕ, _+_, _*_, _≤_, _<_}
+use Prim.Native.Nat.{ℕ, suc, _+_, _*_, _≤_, _<_}
 use lib.ListN.{length, getD}
 use lib.Ieee.{Float, nan}
+use Rattle.numbers.specs.Double.{0·0}
 use Rattle.refusals.specs.declared.Verdict.{Verdict}
 use Rattle.refusals.specs.declared.Verdict.the-variants.{Fine}
 use Rattle.slots.specs.Slots.{vec3At, frameAt}
@@ -14,6 +15,8 @@ use Rattle.arm.specs.declared.model.Model.{Model}
 use Rattle.calls.specs.Plan.{planOf}
 use Rattle.calls.specs.declared.position.Outcome.{Outcome}
 use Rattle.calls.specs.declared.position.Outcome.the-variants.{Accepted}
+use Rattle.plain_entries.specs.Arm.{armOf}
+use Rattle.plain_entries.specs.Rests.{Carries, Agree}
 use Rattle.mass_matrix.specs.MassMatrix.{floats}
 use Rattle.mass_matrix.specs.declared.mass_matrix.Mode.{Mode}
 use Rattle.dynamics.specs.declared.calculation.Calculation.{Calculation}
@@ -25,6 +28,10 @@ unfoldable pub stored : Mode → Model → List Float → ℕ → ℕ → Float
 stored mode m matrix I J =
     let p = planOf (floats mode) (m .n) (m .kinds) in
     getD matrix ((p .lead + activesOf (m .kinds) J) * p .side + (p .lead + activesOf (m .kinds) I)) nan
+
+-- joint j is not fixed
+abbrev pub Active : Model → ℕ → Type 0
+Active m j = kindOf (m .kinds) j ≡ 2 → ⊥
 
 -- "over one tree with the same kinds"
 pub record OneTree (m m′ : Model) : Type 0 where
@@ -39,15 +46,32 @@ pub record SameBut (c : Changes) (m m′ : Model) (q q′ : List Float) : Type 0
   -- a joint's frame is told as one: its origin, or its number of q
   pub origins : (j : ℕ) → j < m .n → another (c .frames) j ≡ false → frameAt (m .origins) (j * 7) ≡ frameAt (m′ .origins) (j * 7)
   pub values : (j : ℕ) → j < m .n → another (c .frames) j ≡ false → valueOf (m .kinds) q j ≡ valueOf (m′ .kinds) q′ j
-  pub axes : (j : ℕ) → j < m .n → (kindOf (m .kinds) j ≡ 2 → ⊥) → another (c .axes) j ≡ false → vec3At (m .axes) (j * 3) ≡ vec3At (m′ .axes) (j * 3)
-  pub rotors : (j : ℕ) → j < m .n → (kindOf (m .kinds) j ≡ 2 → ⊥) → another (c .rotors) j ≡ false → rotorOf (m .rotors) j ≡ rotorOf (m′ .rotors) j
+  pub axes : (j : ℕ) → j < m .n → Active m j → another (c .axes) j ≡ false → vec3At (m .axes) (j * 3) ≡ vec3At (m′ .axes) (j * 3)
+  pub rotors : (j : ℕ) → j < m .n → Active m j → another (c .rotors) j ≡ false → rotorOf (m .rotors) j ≡ rotorOf (m′ .rotors) j
 
 -- ---- over contracts: a contract is a function's `Post`, as in `OneResult`
 
--- what is asked of a matrix, and of the marks: whether the root floats, n, parents and kinds, and what was told
+-- what is asked of a matrix: the calculation, the model's lists and q
 abbrev pub Question : Type 0
 Question = Calculation × Model × List Float
 
+-- WHICH NUMBERS AN ENTRY RESTS ON, of the matrices that a call accepts. What is seen of the call is the outcome and the output
+pub record StoredEntries {K : Type 0} {A R E : K → Type 0} (post : (κs : K) → A κs → R κs → E κs → Type 0) (asked : (κs : K) → A κs → Question) (seen : (κs : K) → R κs → E κs → Outcome × List Float) : Type 0 where
+  -- the entry between an active joint J and J itself, or an active joint I that carries it, has the same bits in two matrices over one tree, where all that it rests on agrees. The roots may differ
+  pub stands : (κs λs : K) (a : A κs) (b : A λs) (r : R κs) (s : R λs) (e : E κs) (f : E λs) → post κs a r e → post λs b s f
+      → (mode mode′ : Mode) → asked κs a .0 ≡ Matrix mode → asked λs b .0 ≡ Matrix mode′ → seen κs r e .0 ≡ Accepted → seen λs s f .0 ≡ Accepted
+      → (let m = asked κs a .1 in let m′ = asked λs b .1 in OneTree m m′
+      → (J I : ℕ) → J < m .n → Active m J → Active m I → Carries (m .n) (parentOf (m .parents)) (suc I) (suc J) → Agree (armOf m (asked κs a .2)) (armOf m′ (asked λs b .2)) J I
+      → stored mode m (seen κs r e .1) I J ≡ stored mode′ m′ (seen λs s f .1) I J)
+  -- mirrored places among joints have equal bits
+  pub mirrored : (κs : K) (a : A κs) (r : R κs) (e : E κs) → post κs a r e → (mode : Mode) → asked κs a .0 ≡ Matrix mode → seen κs r e .0 ≡ Accepted
+      → (let m = asked κs a .1 in (J I : ℕ) → J < m .n → I < m .n → Active m J → Active m I → stored mode m (seen κs r e .1) I J ≡ stored mode m (seen κs r e .1) J I)
+  -- joints of which neither carries the other have +0.0
+  pub nothing : (κs : K) (a : A κs) (r : R κs) (e : E κs) → post κs a r e → (mode : Mode) → asked κs a .0 ≡ Matrix mode → seen κs r e .0 ≡ Accepted
+      → (let m = asked κs a .1 in (J I : ℕ) → J < m .n → I < m .n → Active m J → Active m I
+      → (Carries (m .n) (parentOf (m .parents)) (suc I) (suc J) → ⊥) → (Carries (m .n) (parentOf (m .parents)) (suc J) (suc I) → ⊥) → stored mode m (seen κs r e .1) I J ≡ 0·0)
+
+-- what is asked of the marks: whether the root floats, n, parents and kinds, and what was told
 abbrev pub Telling : Type 0
 Telling = Bool × ℕ × List ℕ × List ℕ × Changes
 
