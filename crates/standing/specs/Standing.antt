@@ -30,7 +30,7 @@ changes links frames axes rotors = record { links = links; frames = frames; axes
 abbrev pub another : List Bool → ℕ → Bool
 another flags i = getD flags i false
 
--- joint x's frame is another where its axis is; a fixed joint has none
+-- joint x's frame is another where it is told, and where its axis is, which a fixed joint has not
 unfoldable pub reframed : List ℕ → List Bool → List Bool → ℕ → Bool
 reframed kinds frames axes x = another frames x || (not (isFixed (kindOf kinds x)) && another axes x)
 
