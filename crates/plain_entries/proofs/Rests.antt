@@ -23,12 +23,12 @@ use Rattle.plain_entries.proofs.Depths.{choice, either, gather-same}
 
 module _ {n : ℕ} {parent : ℕ → ℕ} where
   -- what a carried link carries is carried
-  pub carries-on : {l k x : ℕ} → Carries n parent l k → Carries n parent k x → Carries n parent l x
+  carries-on : {l k x : ℕ} → Carries n parent l k → Carries n parent k x → Carries n parent l x
   carries-on c itself = c
   carries-on c (further j h d) = further j h (carries-on c d)
 
   -- another link than l itself is carried through the joint that it hangs on
-  pub carries-up : {l j : ℕ} → (suc j ≡ l → ⊥) → Carries n parent l (suc j) → Carries n parent l (parent j)
+  carries-up : {l j : ℕ} → (suc j ≡ l → ⊥) → Carries n parent l (suc j) → Carries n parent l (parent j)
   carries-up away c = go c away refl
     where
       go : {l j x : ℕ} → Carries n parent l x → (suc j ≡ l → ⊥) → x ≡ suc j → Carries n parent l (parent j)

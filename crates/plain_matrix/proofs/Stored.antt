@@ -25,7 +25,7 @@ use Rattle.plain_matrix.proofs.Roots.{with-number}
 
 module _ (a : Arm) (p : Plan) (r : Quaternion) (kinds : List ℕ) (joints : a .n ≡ p .n) (sided : p .side ≡ p .lead + activesOf kinds (p .n)) where
   -- an entry of the list, by row and column
-  pub entry-of : (row column : ℕ) → row < p .side → column < p .side → getD (plainEntries a p r kinds) (column * p .side + row) nan ≡ entryAt a (p .lead) r kinds row column
+  entry-of : (row column : ℕ) → row < p .side → column < p .side → getD (plainEntries a p r kinds) (column * p .side + row) nan ≡ entryAt a (p .lead) r kinds row column
   unfolding plainEntries
   entry-of row column h g =
       let t = column * p .side + row in

@@ -1,5 +1,5 @@
 -- What the loops that flag links keep: going up from one link, and over all links or joints. Assumes nothing.
-use mathlib.Core.Bool.{Bool, true, false, _||_}
+use mathlib.Core.Bool.{Bool, true, false, or-assoc, _||_}
 use mathlib.Core.List.{List}
 use mathlib.Core.Path.{_≡_, refl, sym, ap, ap₂, _∙_}
 use Prim.Native.Nat.{ℕ, suc, _+_, _-_, _≤_, _<_}
@@ -14,11 +14,11 @@ use Rattle.numbers.proofs.Tables.{length-tab, getD-tab}
 use Rattle.refusals.specs.Refusals.{scan, lowest, found}
 use Rattle.standing.specs.Tree.{carriesIn, carries}
 use Rattle.standing.specs.Standing.{another, some}
-use Rattle.standing.proofs.Flags.{second, or-not, regroup, some-more, as-table}
+use Rattle.standing.proofs.Flags.{second, or-not, some-more, as-table}
 use Rattle.standing.proofs.Trees.{carries-step}
 
 -- one flag set
-flag-set : (flags : List Bool) (l i : ℕ) → l < length flags → another (set flags l true) i ≡ (another flags i || eqb l i)
+pub flag-set : (flags : List Bool) (l i : ℕ) → l < length flags → another (set flags l true) i ≡ (another flags i || eqb l i)
 flag-set flags l i h = go (eqb l i) (eqb-true l i) (eqb-false l i)
   where
     go : (b : Bool) → (b ≡ true → l ≡ i) → (b ≡ false → l ≡ i → ⊥) → another (set flags l true) i ≡ (another flags i || b)
@@ -46,7 +46,7 @@ module _ (n : ℕ) (parent : ℕ → ℕ) (begun : List Bool) (x : ℕ) where
           within = omega (arith, c .within, lower);
           rest = λ i.
               ap (λ (b : Bool). b || carries parent i (parent (l - 1))) (flag-set flags l i room)
-              ∙ regroup (another flags i) (eqb l i) (carries parent i (parent (l - 1)))
+              ∙ or-assoc (another flags i) (eqb l i) (carries parent i (parent (l - 1)))
               ∙ ap (λ (b : Bool). another flags i || b) (rw e at (sym (carries-step n parent low i (l - 1) (omega (arith, c .within)))))
               ∙ c .rest i;
         }
@@ -73,7 +73,7 @@ module _ (gives : ℕ → ℕ → Bool) (begun : List Bool) where
           front = λ l h.
               ap (λ (s : List Bool). another s l) e ∙ getD-tab _ false size l (omega (arith, d))
               ∙ ap₂ _||_ (g .front l h) (sym (f l))
-              ∙ regroup (another begun l) (some (gives l) k) (gives l k)
+              ∙ or-assoc (another begun l) (some (gives l) k) (gives l k)
               ∙ ap (λ (b : Bool). another begun l || b) (sym (some-more (gives l) k))
               ∙ ap (λ (j : ℕ). another begun l || some (gives l) j) (sym (add-one k));
         }

@@ -1,5 +1,5 @@
 -- Flags made of others, and the flag that some number below n has a property. Assumes nothing.
-use mathlib.Core.Bool.{Bool, true, false, cond, _&&_, _||_, true≢false}
+use mathlib.Core.Bool.{Bool, true, false, cond, _&&_, _||_, and-true, and-false, or-true, or-false, true≢false}
 use mathlib.Core.List.{List}
 use mathlib.Core.Path.{_≡_, refl, sym, _∙_}
 use Prim.Native.Nat.{ℕ, zero, suc, _+_, _<_}
@@ -37,28 +37,20 @@ pub first : {a : Bool} (b : Bool) → a ≡ true → (a || b) ≡ true
 first b e = rw e
 
 pub second : (a : Bool) {b : Bool} → b ≡ true → (a || b) ≡ true
-second true e = refl
-second false e = e
+second a e = rw e (or-true a)
 
 pub one-is : (a b : Bool) {A : Type 0} → (a || b) ≡ true → (a ≡ true → A) → (b ≡ true → A) → A
 one-is true b e f g = f refl
 one-is false b e f g = g e
 
 pub or-not : (a : Bool) {b : Bool} → b ≡ false → (a || b) ≡ a
-or-not true e = refl
-or-not false e = e
+or-not a e = rw e (or-false a)
 
 pub and-is : (a : Bool) {b : Bool} → b ≡ true → (a && b) ≡ a
-and-is true e = e
-and-is false e = refl
+and-is a e = rw e (and-true a)
 
 pub and-not : (a : Bool) {b : Bool} → b ≡ false → (a && b) ≡ false
-and-not true e = e
-and-not false e = refl
-
-pub regroup : (a b c : Bool) → ((a || b) || c) ≡ (a || (b || c))
-regroup true b c = refl
-regroup false b c = refl
+and-not a e = rw e (and-false a)
 
 -- ---- some number below n
 

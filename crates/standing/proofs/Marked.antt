@@ -44,7 +44,7 @@ module _ (n : ℕ) (parents kinds : List ℕ) (c : Changes) (t : Tree n parents)
   low d e f j h = let g : j < n = omega (arith, e) in omega (arith, f j g, t .below j g)
 
   -- the entry between two joints of which it is said to stand
-  pub between-same : (J I : ℕ) → J < n → I < n → (kindOf kinds J ≡ 2 → ⊥) → (kindOf kinds I ≡ 2 → ⊥) → standsBetween n parents kinds c J I ≡ true → entryBetween a J I ≡ entryBetween b J I
+  between-same : (J I : ℕ) → J < n → I < n → (kindOf kinds J ≡ 2 → ⊥) → (kindOf kinds I ≡ 2 → ⊥) → standsBetween n parents kinds c J I ≡ true → entryBetween a J I ≡ entryBetween b J I
   between-same J I h i f g s = go (carries parent (suc I) (suc J)) refl
     where
       first : (j : ℕ) → j < n → a .parent j ≡ parent j

@@ -1,5 +1,5 @@
 -- Going up from a joint until another is met: what is touched between them, a joint at a time. Assumes nothing.
-use mathlib.Core.Bool.{Bool, true, false, not, _&&_, _||_}
+use mathlib.Core.Bool.{Bool, true, false, not, or-assoc, _&&_, _||_}
 use mathlib.Core.List.{List}
 use mathlib.Core.Path.{_≡_, refl, sym, ap, _∙_}
 use Prim.Native.Nat.{ℕ, suc, _-_, _<_}
@@ -9,7 +9,7 @@ use lib.Dec.{eqb}
 use Rattle.arm.specs.Model.{parentOf, Tree}
 use Rattle.standing.specs.Tree.{carriesIn, carries, between}
 use Rattle.standing.specs.Standing.{some, reframed, pathTouched, standsUp}
-use Rattle.standing.proofs.Flags.{same-flag, all-three, three-are, first, second, one-is, or-not, regroup, some-where, some-has}
+use Rattle.standing.proofs.Flags.{same-flag, all-three, three-are, first, second, one-is, or-not, some-where, some-has}
 use Rattle.standing.proofs.Trees.{carries-step, carries-itself, carries-means, carries-le}
 
 module _ (n : ℕ) (parents kinds : List ℕ) (frames axes : List Bool) (t : Tree n parents) (I : ℕ) where
@@ -94,5 +94,5 @@ module _ (n : ℕ) (parents kinds : List ℕ) (frames axes : List Bool) (t : Tre
         up-on known next d = go (carries parent (suc I) (parent J)) refl
           where
             go : (b : Bool) → carries parent (suc I) (parent J) ≡ b → value next u ≡ value known J
-            go true c = rw (away, e, c, d, path-on c) (ap not (regroup known (reframed kinds frames axes J) (path u)))
+            go true c = rw (away, e, c, d, path-on c) (ap not (or-assoc known (reframed kinds frames axes J) (path u)))
             go false c = rw (away, e, c)

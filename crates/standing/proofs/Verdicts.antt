@@ -94,7 +94,7 @@ module _ (p : Plan) (parents kinds numbers : List ℕ) (fit : Fit p parents kind
           let b = ltb-false column (p .lead) (n .1) in
           joint-same (row - p .lead) (column - p .lead) (omega (arith, fit .sided)) (omega (arith, fit .sided))
 
-  pub marks-same : marksOf p kinds f ≡ marksOf p kinds g
+  marks-same : marksOf p kinds f ≡ marksOf p kinds g
   unfolding marksOf
   marks-same =
       as-table _ (p .side * p .side) (tab (markNumber p kinds f) (p .side * p .side)) (length-tab _ (p .side * p .side))

@@ -1,17 +1,18 @@
 -- Lists of names and of flags, over plain lists: one turn of each loop, and flags that are all false. Assumes nothing.
 use mathlib.Core.Path.{_≡_, refl, sym, _∙_}
-use mathlib.Core.Bool.{Bool, true, false, _||_, or-true, or-false, or-assoc}
+use mathlib.Core.Bool.{Bool, true, false, _||_, or-false, or-assoc}
 use mathlib.Core.List.{List, _++_}
 use mathlib.Core.Option.{Option}
 use Prim.Native.Nat.{ℕ, zero-le, _+_, _≤_, _<_}
 use native.Mathlib.Numerals.{add-one}
 use native.Mathlib.Omega.{arith}
-use borrow.Author.Tests.{lt-ltb, le-ltb, eqb-true, eqb-false, ne-eqb}
+use borrow.Author.Tests.{lt-ltb, le-ltb, ne-eqb}
 use lib.Dec.{eqb}
 use lib.ListN.{length, getD, take, drop, set, replicate, length-set, length-replicate, getD-replicate, drop-of-length-le}
-use lib.Seq.{drop-cons, getD-set-same, getD-set-other, getD-take, length-take-le, length-front, take-at}
+use lib.Seq.{drop-cons, getD-take, length-take-le, length-front, take-at}
 use Rattle.numbers.specs.Table.{tab}
 use Rattle.numbers.proofs.Tables.{length-tab, getD-tab}
+use Rattle.standing.proofs.Climbs.{flag-set}
 use Rattle.standing.proofs.Flags.{as-table}
 use Rattle.standing_requests.specs.Request.{listed, allBelow, named}
 
@@ -64,11 +65,7 @@ module _ {l : List ℕ} {size : ℕ} {flags : List Bool} {k : ℕ} (f : Flagged 
       }
 
   pub flag-on : k < length l → getD l k 0 < size → Flagged l size (set flags (getD l k 0) true) (k + 1)
-  flag-on h b = flag-more (set flags (getD l k 0) true) h (simp length-set (f .kept)) (λ i a. go i (eqb (getD l k 0) i) refl)
-    where
-      go : (i : ℕ) (t : Bool) → eqb (getD l k 0) i ≡ t → getD (set flags (getD l k 0) true) i false ≡ (getD flags i false || t)
-      go i true e = rw (← eqb-true (getD l k 0) i e) (getD-set-same flags (getD l k 0) true false (omega (arith, f .kept)) ∙ sym (or-true (getD flags (getD l k 0) false)))
-      go i false e = getD-set-other flags (getD l k 0) i true false (λ q. eqb-false (getD l k 0) i e (sym q)) ∙ sym (or-false (getD flags i false))
+  flag-on h b = flag-more (set flags (getD l k 0) true) h (simp length-set (f .kept)) (λ i a. flag-set flags (getD l k 0) i (omega (arith, f .kept)))
 
   pub flag-off : k < length l → size ≤ getD l k 0 → Flagged l size flags (k + 1)
   flag-off h b = flag-more flags h (f .kept) (λ i a. rw (ne-eqb (getD l k 0) i (λ q. omega arith)) (sym (or-false _)))
