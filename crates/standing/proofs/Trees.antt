@@ -1,11 +1,11 @@
--- The test whether one link carries another is the definition of `plain_entries`. Assumes nothing.
+-- The test whether one link carries another is the definition of `plain_entries`, and what that says of a tree. Assumes nothing.
 use mathlib.Core.Bool.{Bool, true, not, _&&_, _||_}
 use mathlib.Core.Path.{_≡_, refl, sym, ap, _∙_}
 use Prim.Native.Nat.{ℕ, zero, suc, _-_, _≤_, _<_}
 use native.Mathlib.Omega.{arith}
 use borrow.Author.Tests.{eqb-true, eq-eqb, ne-eqb}
 use lib.Dec.{eqb}
-use Rattle.plain_entries.specs.Rests.{Carries, itself, further}
+use Rattle.plain_entries.specs.Rests.{Carries, itself, further, Between}
 use Rattle.standing.specs.Tree.{carriesIn, carries}
 use Rattle.standing.proofs.Flags.{first, second, one-is, or-not}
 
@@ -60,3 +60,7 @@ module _ (n : ℕ) (parent : ℕ → ℕ) (low : (j : ℕ) → j < n → parent 
   pub carries-le : {l x : ℕ} → Carries n parent l x → l ≤ x
   carries-le itself = omega arith
   carries-le (further j h c) = omega (arith, carries-le c, low j h)
+
+  -- for I equal to J no frame at J or above counts: none is between
+  pub none-between : (J x : ℕ) → x < n → Between n parent J J x → ⊥
+  none-between J x h b = omega (arith, carries-le (b .0), carries-le (b .1), low x h)

@@ -10,7 +10,7 @@ use Rattle.arm.specs.Model.{parentOf, Tree}
 use Rattle.standing.specs.Tree.{carriesIn, carries, between}
 use Rattle.standing.specs.Standing.{some, reframed, pathTouched, standsUp}
 use Rattle.standing.proofs.Flags.{same-flag, all-three, three-are, first, second, one-is, or-not, some-where, some-has}
-use Rattle.standing.proofs.Trees.{carries-step, carries-itself, carries-means, carries-le}
+use Rattle.standing.proofs.Trees.{carries-step, carries-itself, carries-means, none-between}
 
 module _ (n : ℕ) (parents kinds : List ℕ) (frames axes : List Bool) (t : Tree n parents) (I : ℕ) where
   abbrev parent : ℕ → ℕ
@@ -39,9 +39,7 @@ module _ (n : ℕ) (parents kinds : List ℕ) (frames axes : List Bool) (t : Tre
           let (x, h, f) = some-where (counts I) n e in
           let g = counts-are I x f in
           let low = t .below x h in
-          let up = carries-le n parent (t .below) (carries-means n parent (t .below) (suc I) (parent x) (omega arith) (g .1)) in
-          let down = carries-le n parent (t .below) (carries-means n parent (t .below) (suc x) (suc I) (omega arith) (g .0)) in
-          absurd (omega arith)
+          absurd (none-between n parent (t .below) I x h (carries-means n parent (t .below) (suc x) (suc I) (omega arith) (g .0), carries-means n parent (t .below) (suc I) (parent x) (omega arith) (g .1)))
       go false e = refl
 
   -- ---- whether the entry stands, where it is known or not that something else is touched

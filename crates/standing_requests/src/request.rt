@@ -134,16 +134,13 @@ fn answer<'a>(
     requires { ⌜ at + room ≤ length (now text) ⌝ }
     ensures { λ r. ⌜ (at ≤ r) × (r ≤ at + room) × (take r (now (text .exit)) ≡ take at (now (text .entry)) ++ standsLine m floating (now (links .entry)) (now (frames .entry)) (now (axes .entry)) (now (rotors .entry))) ⌝ }
 {
-    let n = m.n;
-    let parents = m.parents;
-    let kinds = m.kinds;
     let mut marks = mark_buffer();
-    let count = marks_room(floating, n, &parents, &kinds);
+    let count = marks_room(floating, m.n, &m.parents, &m.kinds);
     let v = stands(
         floating,
-        n,
-        &parents,
-        &kinds,
+        m.n,
+        &m.parents,
+        &m.kinds,
         links,
         frames,
         axes,

@@ -17,9 +17,9 @@ array-borrow-prefix-marks c = search needs
 
 slice-aggregate-stands : tie.Need-slice-aggregate-stands
 slice-aggregate-stands c =
-    let b3 = c .before .before .before in
-    let b6 = b3 .before .before .before in
-    sym (length-take-le _ _ (fits (b6 .mark-buffer .ensures) (b3 .marks-room .ensures .1)))
+    let room = c .before .before .before .before in
+    let buffer = room .before .before .before .before in
+    sym (length-take-le _ _ (fits (buffer .mark-buffer .ensures) (room .marks-room .ensures .1)))
 
 stands-requires : tie.Need-stands-requires
 stands-requires c κs = search needs
@@ -27,17 +27,17 @@ stands-requires c κs = search needs
 array-share-prefix-marks : tie.Need-array-share-prefix-marks
 array-share-prefix-marks c =
     let b2 = c .before .before in
-    let b6 = b2 .before .before .before .before in
-    let b9 = b6 .before .before .before in
-    back-fits (b9 .mark-buffer .ensures) (b6 .marks-room .ensures .1) (b2 .stands .last .1 .1 .1 .1 .1 .1 .1 .1 .0) (b2 .stands .kept .1 .1 .1 .1 .1 .1 .1 .1 .0)
+    let room = b2 .before .before .before .before .before in
+    let buffer = room .before .before .before .before in
+    back-fits (buffer .mark-buffer .ensures) (room .marks-room .ensures .1) (b2 .stands .last .1 .1 .1 .1 .1 .1 .1 .1 .0) (b2 .stands .kept .1 .1 .1 .1 .1 .1 .1 .1 .0)
 
 slice-aggregate-put-stands : tie.Need-slice-aggregate-put-stands
 slice-aggregate-put-stands c = sym (length-take-le _ _ (array-share-prefix-marks (c .before)))
 
 put-stands-requires : tie.Need-put-stands-requires
 put-stands-requires c κs =
-    let b7 = c .before .before .before .before .before .before .before in
-    (rw (length-take-le _ _ (array-share-prefix-marks (c .before))) (b7 .marks-room .ensures .1), search needs)
+    let room = c .before .before .before .before .before .before .before .before in
+    (rw (length-take-le _ _ (array-share-prefix-marks (c .before))) (room .marks-room .ensures .1), search needs)
 
 same-length : tie.Need-same-length
 same-length c = search needs
@@ -46,13 +46,12 @@ returns : tie.Need-returns
 returns c =
     let b2 = c .before .before in
     let b6 = b2 .before .before .before .before in
-    let b10 = b6 .before .before .before .before in
-    let b13 = b10 .before .before .before in
-    let e = b13 .mark-buffer .ensures in
-    let h = b10 .marks-room .ensures .1 in (
+    let room = b6 .before .before .before .before .before in
+    let e = room .before .before .before .before .mark-buffer .ensures in
+    let h = room .marks-room .ensures .1 in (
       b2 .put-stands .ensures .0,
       b2 .put-stands .ensures .1,
-      rw (← b10 .marks-room .ensures .0, ← first-false e h, ← b6 .stands .ensures) (rw (given-back e h _ (b6 .stands .kept .1 .1 .1 .1 .1 .1 .1 .1 .0)) at (b2 .put-stands .ensures .2)),
+      rw (← room .marks-room .ensures .0, ← first-false e h, ← b6 .stands .ensures) (rw (given-back e h _ (b6 .stands .kept .1 .1 .1 .1 .1 .1 .1 .1 .0)) at (b2 .put-stands .ensures .2)),
     )
 
 pub answer-spec : {M : Type 1} → statement M
