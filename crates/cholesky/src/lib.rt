@@ -1,4 +1,6 @@
 // The lower factor of a 6×6 matrix, written over it, and solving by it.
+#![tactic(auto)]
+
 ghost use Rattle.std.specs.Prelude.{◌≡◌, ◌-◌, ◌≤◌, ◌<◌};
 ghost use Rattle.cholesky.specs.Cholesky.{less_of, below_to, factor_column, next_of, cholesky_of, forward_row, forward_to, back_row, back_to, solve_of};
 

@@ -1,21 +1,23 @@
 // Sine and cosine of half an angle.
+#![tactic(auto)]
+
 ghost use Rattle.std.specs.Prelude.{◌≡◌, ◌<◌, T, length};
 ghost use Rattle.half_turn.specs.HalfTurn.{small, turns_of, horner_of, series_of, placed_of, reduced_of, within, in_range, half_turn_of, HalfTurnIs};
 
 // A whole number as a double, and modulo 4.
-#[derive(Drop)]
+#[derive(Clone, Copy)]
 pub struct Turns {
     pub whole: f64,
     pub quarter: u64,
 }
 
-#[derive(Drop)]
+#[derive(Clone, Copy)]
 pub struct SinCos {
     pub sin: f64,
     pub cos: f64,
 }
 
-#[derive(Drop)]
+#[derive(Clone, Copy)]
 pub enum HalfTurn {
     Of(SinCos),
     OutOfRange,

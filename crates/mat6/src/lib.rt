@@ -1,4 +1,6 @@
 // 6×6 matrices, row by row in 36 numbers: entry (i, j) stands at i * 6 + j. A vector is six numbers.
+#![tactic(auto)]
+
 ghost use Rattle.std.specs.Prelude.{◌≡◌, ◌<◌};
 ghost use Rattle.mat6.specs.Mat6.{plus_of, row_of, apply_of};
 

@@ -4,7 +4,7 @@ ghost use Rattle.numbers.specs.Mat3.{plus_of, minus_of, neg_of, transpose_of, ap
 
 use crate::vec3::Vec3;
 
-#[derive(Drop)]
+#[derive(Clone, Copy)]
 pub struct Mat3 {
     pub r0: Vec3,
     pub r1: Vec3,

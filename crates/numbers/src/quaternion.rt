@@ -5,7 +5,7 @@ ghost use Rattle.numbers.specs.Quaternion.{product_of, inverse_of, rotate_of, ma
 use crate::mat3::Mat3;
 use crate::vec3::Vec3;
 
-#[derive(Drop)]
+#[derive(Clone, Copy)]
 pub struct Quaternion {
     pub w: f64,
     pub u: Vec3,

@@ -1,4 +1,6 @@
 // Struct-sized reads and writes in a lent slice of numbers, at an offset, and the test of a part. Every store to a workspace is made here.
+#![tactic(auto)]
+
 ghost use Rattle.std.specs.Prelude.{◌≡◌, ◌+◌, ◌≤◌, ◌<◌, length, get_or, set, take, drop};
 ghost use Rattle.std.specs.Float.{nan};
 ghost use Rattle.numbers.specs.Double.{all_finite};
@@ -194,7 +196,7 @@ pub fn copy_from(d: &mut [f64], s: &[f64], at: usize)
     ensures { d.new ≡ part_of s.now at (length d.old) }
 {
     let mut i: usize = 0;
-    while i < d.len() {
+    'numbers: while i < d.len() {
         d[i] = s[at + i];
         i += 1;
     }

@@ -6,7 +6,7 @@ use half_turn::SinCos;
 use numbers::quaternion::Quaternion;
 use numbers::vec3::Vec3;
 
-#[derive(Drop)]
+#[derive(Clone, Copy)]
 pub struct Frame {
     pub rotation: Quaternion,
     pub translation: Vec3,

@@ -6,7 +6,7 @@ use numbers::double;
 use numbers::quaternion::Quaternion;
 use numbers::vec3::Vec3;
 
-#[derive(Drop)]
+#[derive(Clone, Copy)]
 pub struct Twist {
     pub angular: Vec3,
     pub linear: Vec3,

@@ -3,7 +3,7 @@ ghost use Rattle.std.specs.Prelude.{◌≤◌, ◌<◌};
 ghost use Rattle.square_root.specs.Guess.{SquareOf};
 
 // top * 2^52 + low
-#[derive(Drop)]
+#[derive(Clone, Copy)]
 pub struct Square {
     pub top: u64,
     pub low: u64,

@@ -1,18 +1,20 @@
 // The square root. Floats guess its digits; whole numbers alone decide them.
+#![tactic(auto)]
+
 ghost use Rattle.std.specs.Prelude.{◌≡◌, ◌+◌, ◌*◌, ◌^◌, ◌≤◌, ◌<◌};
 ghost use Rattle.square_root.specs.SquareRoot.{RootIs, root_of, pattern_of, sig_of, exp_of, NextPart};
 ghost use Rattle.square_root.specs.Guess.{Remainder, rounded_root};
 
 mod guess;
 
-#[derive(Drop)]
+#[derive(Clone, Copy)]
 pub enum Root {
     Is(f64),
     No,
 }
 
 // What is worked out so far: the root's digits, and what is left over.
-#[derive(Drop)]
+#[derive(Clone, Copy)]
 struct Part {
     root: u64,
     rem: u64,
