@@ -9,14 +9,14 @@ use numbers::quaternion::Quaternion;
 use numbers::vec3::Vec3;
 use spatial::frame::Frame;
 
-#[derive(Drop)]
+#[derive(Clone, Copy)]
 pub enum Motion {
     Turn(Vec3),
     Slide(Vec3),
     Fixed,
 }
 
-#[derive(Drop)]
+#[derive(Clone, Copy)]
 pub struct Joint {
     pub parent: usize,
     pub motion: Motion,

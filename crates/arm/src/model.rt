@@ -10,7 +10,7 @@ use numbers::vec3::Vec3;
 
 // Room for 32 joints and 33 links; what lies past joint n is zero.
 // Seven origin numbers a joint (w, x, y, z, translation), three of its axis, one rotor; ten numbers a link (mass, first moment, xx, xy, xz, yy, yz, zz).
-#[derive(Drop)]
+#[derive(Clone, Copy)]
 pub struct Model {
     pub n: usize,
     pub parents: [u8; 32],
@@ -21,7 +21,7 @@ pub struct Model {
     pub rotors: [f64; 32],
 }
 
-#[derive(Drop)]
+#[derive(Clone, Copy)]
 pub struct Link {
     pub mass: f64,
     pub moment: Vec3,

@@ -9,7 +9,7 @@ use spatial::operators;
 use spatial::twist::Twist;
 use spatial::wrench::Wrench;
 
-#[derive(Drop)]
+#[derive(Clone, Copy)]
 pub struct First {
     pub frame: Frame,
     pub velocity: Twist,

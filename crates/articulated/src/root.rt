@@ -10,7 +10,7 @@ use spatial::twist::Twist;
 use spatial::wrench::Wrench;
 
 // A floating base: refused, or its acceleration at the root and the physical one in the world.
-#[derive(Drop)]
+#[derive(Clone, Copy)]
 pub struct Base {
     pub verdict: Verdict,
     pub acceleration: Twist,

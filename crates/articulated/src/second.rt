@@ -11,7 +11,7 @@ use spatial::twist::Twist;
 use spatial::wrench::Wrench;
 
 // U, D and the joint bias.
-#[derive(Drop)]
+#[derive(Clone, Copy)]
 pub struct Term {
     pub u: Wrench,
     pub d: f64,

@@ -1,4 +1,6 @@
 // The solve of a floating base: B = D⁻¹ A D⁻¹, B y = D⁻¹ b, x = D⁻¹ y, with document 01's tests in their order.
+#![tactic(auto)]
+
 ghost use Rattle.std.specs.Prelude.{◌≡◌, ◌+◌, ◌*◌, ◌<◌, length, take};
 ghost use Rattle.square_root.specs.SquareRoot.{root_of};
 ghost use Rattle.spatial.specs.Wrench.{vector_of};
@@ -9,7 +11,7 @@ use spatial::twist::Twist;
 use spatial::wrench::Wrench;
 use square_root::Root;
 
-#[derive(Drop)]
+#[derive(Clone, Copy)]
 pub enum Solved {
     Of(Twist),
     Singular,
@@ -18,7 +20,7 @@ pub enum Solved {
 }
 
 // Whether the columns of the inverse so far are finite, and the largest of their sums.
-#[derive(Drop)]
+#[derive(Clone, Copy)]
 pub struct Inverse {
     pub finite: bool,
     pub top: f64,

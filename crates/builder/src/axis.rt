@@ -7,7 +7,7 @@ use numbers::vec3::Vec3;
 use square_root::Root;
 
 // What the axis rule keeps, or that it refuses.
-#[derive(Drop)]
+#[derive(Clone, Copy)]
 pub enum Axis {
     Of(Vec3),
     Bad,
@@ -45,6 +45,7 @@ pub fn unit_axis(axis: Vec3) -> Axis
 }
 
 // The axis that a joint of this kind keeps: a fixed joint's is never looked at.
+#[tactic(auto, unfolding(crate::specs::Axis::kept_axis))]
 pub fn kept_axis(kind: u64, axis: Vec3) -> Axis
     ensures { result ≡ kept_axis kind axis }
 {

@@ -9,7 +9,7 @@ use arm::model::Model;
 use numbers::vec3::Vec3;
 use refusals::Verdict;
 
-#[derive(Drop)]
+#[derive(Clone, Copy)]
 pub struct Built {
     pub verdict: Verdict,
     pub model: Model,
@@ -48,6 +48,7 @@ fn double_slots(slots: &mut [f64], s: &[f64])
     }
 }
 
+#[tactic(auto, unfolding(crate::specs::Build::axis_slot))]
 fn axis_slot<'a>(n: usize, kinds: &'a [u64], axes: &'a [f64], j: usize) -> Vec3
     requires { (n ≤ length kinds.now) × (n * 3 ≤ length axes.now) }
     ensures { result ≡ axis_slot n kinds.now axes.now j }

@@ -3,7 +3,7 @@ ghost use Rattle.std.specs.Prelude.{◌≡◌, ◌≤◌};
 ghost use Rattle.calls.specs.Plan.{plan_by};
 
 // n joints; the base's six numbers lead where the root floats, else none; `side` is G, with the active joints behind them.
-#[derive(Drop)]
+#[derive(Clone, Copy)]
 pub struct Plan {
     pub n: usize,
     pub lead: usize,

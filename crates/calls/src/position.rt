@@ -5,7 +5,7 @@ ghost use Rattle.calls.specs.Position.{visits_of, fresh_at, shut_at, position_ve
 use numbers::double;
 use refusals::{Place, Verdict};
 
-#[derive(Drop)]
+#[derive(Clone, Copy)]
 pub enum Outcome {
     Open,
     Accepted,
@@ -14,7 +14,7 @@ pub enum Outcome {
 
 // A calculation (the matrix, else forward dynamics) on a root (floating, else fixed) of n joints, of which a are active;
 // how many visits are made, and whether there is none left.
-#[derive(Drop)]
+#[derive(Clone, Copy)]
 pub struct Position {
     pub matrix: bool,
     pub floating: bool,
@@ -25,14 +25,14 @@ pub struct Position {
 }
 
 // A position, and what has become of the calculation there.
-#[derive(Drop)]
+#[derive(Clone, Copy)]
 pub struct Progress {
     pub position: Position,
     pub outcome: Outcome,
 }
 
 // What a call answers: the position to go on from, the outcome, and how many visits were made.
-#[derive(Drop)]
+#[derive(Clone, Copy)]
 pub struct Answer {
     pub position: Position,
     pub outcome: Outcome,

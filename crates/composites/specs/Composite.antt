@@ -61,7 +61,7 @@ force_of (Turn axis) c = record { torque = apply_of c.inertia axis; force = cros
 force_of (Slide axis) c = record { torque = cross_of c.moment axis; force = scale_of axis c.mass }
 force_of Fixed c = zeros_of
 
--- S-as-F, what a wrench gives along a motion
+-- S·F, what a wrench gives along a motion
 unfoldable pub entry_of : Motion → Wrench → Float
 entry_of (Turn axis) w = dot_of axis w.torque
 entry_of (Slide axis) w = dot_of axis w.force

@@ -1,3 +1,5 @@
 // The places of the mass matrix's workspace, and composites in it.
+#![tactic(auto)]
+
 pub mod composite;
 pub mod plan;

@@ -1,4 +1,6 @@
 // Inertias of bodies as 6×6 matrices, angular first (`forward_dynamics.rs`).
+#![tactic(auto)]
+
 ghost use Rattle.std.specs.Prelude.{◌≡◌, ◌+◌, ◌*◌, ◌≤◌, ◌<◌, length, take};
 ghost use Rattle.spatial.specs.Wrench.{vector_of};
 ghost use Rattle.inertia.specs.Inertia.{block_of, from_blocks, rigid_of, inertia_apply, row_part, columns_of, signed_column, unit, along_of, inertia_apply_joint, subspace_of, moved_of, inertia_to_parent, reduce_of, average_of};

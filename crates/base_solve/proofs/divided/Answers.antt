@@ -1,0 +1,20 @@
+use mathlib.Core.Path.{refl}
+use mathlib.Core.List.{List}
+use Prim.Native.Nat.{ℕ, zero-le}
+use lib.ListN.{get_or}
+use lib.Ieee.{Float, nan}
+use Rattle.numbers.specs.Double.{◌⊘◌}
+use Rattle.numbers.proofs.Filled.{none, more, full}
+use Rattle.base_solve.specs.BaseSolve.{divided_of}
+use Rattle.base_solve.proofs.divided.Invariants.{divided_at}
+use Rattle.base_solve.proofs.divided.Goals as goal
+
+pub loop-t-init : goal.loop-t-init
+loop-t-init c = none (divided_at c.args.b.now c.args.s.now) 6 _ refl zero-le
+
+pub loop-t-preserved : goal.loop-t-preserved
+loop-t-preserved c = more (divided_at c.args.b.now c.args.s.now) 6 c.loop-t.m c.loop-t.t _ c.loop-t.invariant c.loop-t-test.true refl
+
+pub returns : goal.returns
+unfolding divided_of
+returns c = full (divided_at c.args.b.now c.args.s.now) 6 c.loop-t.m c.loop-t.t c.loop-t.invariant c.loop-t-test.false
