@@ -6,7 +6,7 @@ use numbers::quaternion::Quaternion;
 use numbers::vec3::Vec3;
 
 // The root mode, with the rotation of a floating root.
-#[derive(Drop)]
+#[derive(Clone, Copy)]
 pub enum Mode {
     Fixed,
     Floating(Quaternion),

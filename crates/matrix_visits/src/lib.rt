@@ -1,2 +1,4 @@
 // The visits of the mass matrix by composite bodies (`mass_matrix.rs`), on a fixed or a floating root.
+#![tactic(auto)]
+
 pub mod kernel;

@@ -151,6 +151,7 @@ pub fn root_answer<'a>(
 }
 
 // The entry between joint j and joint i.
+#[tactic(auto, using(crate::proofs::Ups::own, crate::proofs::Ups::not_own))]
 pub fn between<'a>(
     n: usize,
     parents: &'a [u8; 32],

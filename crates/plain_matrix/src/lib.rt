@@ -1,4 +1,6 @@
 // The plain engine's call, which a second reader can follow on paper: the checks, then every entry is tested, then every entry is written.
+#![tactic(auto)]
+
 pub mod matrix;
 
 ghost use Rattle.std.specs.Prelude.{◌≡◌};

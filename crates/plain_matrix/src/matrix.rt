@@ -28,6 +28,7 @@ pub fn joint_with<'a>(kinds: &'a [u8; 32], numbers: &'a [u8; 33], n: usize, k: u
 }
 
 // The entry of two active numbers: the higher one is the column's.
+#[tactic(auto, unfolding(crate::specs::PlainMatrix::joint_entry))]
 fn joint_entry<'a>(
     n: usize,
     parents: &'a [u8; 32],

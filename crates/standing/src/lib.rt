@@ -1,4 +1,6 @@
 // Which entries of a stored mass matrix keep their bits, where some links, frames, axes and rotors are not what they were.
+#![tactic(auto)]
+
 pub mod marks;
 pub mod touched;
 

@@ -93,6 +93,7 @@ pub fn composites<'a>(
 }
 
 // Both axes, and for i equal to j its rotor.
+#[tactic(auto, unfolding(crate::specs::Standing::own_touched))]
 fn own<'a>(axes: &'a [bool; 32], rotors: &'a [bool; 32], j: usize, i: usize) -> bool
     requires { (j < 32) × (i < 32) }
     ensures { result ≡ own_touched axes.now rotors.now j i }
