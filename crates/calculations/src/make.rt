@@ -10,14 +10,14 @@ use dynamics;
 use dynamics::calculation::Calculation;
 
 // So many times on the same buffers, or the portions alone, from this position.
-#[derive(Drop)]
+#[derive(Clone, Copy)]
 pub enum How {
     Times(u64),
     From(Position),
 }
 
 // How many counts there are, and the answer of the last call.
-#[derive(Drop)]
+#[derive(Clone, Copy)]
 pub struct Last {
     pub counts: usize,
     pub answer: Answer,

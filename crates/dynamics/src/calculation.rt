@@ -5,7 +5,7 @@ ghost use Rattle.dynamics.specs.Calculation.{is_matrix, floats};
 use forward_dynamics::forward_dynamics as forward;
 use mass_matrix::mass_matrix as matrix;
 
-#[derive(Drop)]
+#[derive(Clone, Copy)]
 pub enum Calculation {
     Matrix(matrix::Mode),
     Forward(forward::Mode),

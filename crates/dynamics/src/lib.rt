@@ -1,4 +1,6 @@
 // The calls of either calculation: start, portion and the undivided call. A model's lists are lent: by value it would be copied at each call.
+#![tactic(auto)]
+
 pub mod calculation;
 
 ghost use Rattle.std.specs.Prelude.{◌≡◌, length};

@@ -29,6 +29,7 @@ fn lowest_wild(s: &[f64]) -> Place
 }
 
 // The lower of a link and the one found so far, where the link is bad.
+#[tactic(auto, unfolding(crate::specs::Checks::lower_if, crate::specs::Checks::lower_of))]
 fn lower_if(bad: bool, link: usize, p: Place) -> Place
     ensures { result ≡ lower_if bad link p }
 {

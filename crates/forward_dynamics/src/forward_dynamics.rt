@@ -6,7 +6,7 @@ use numbers::quaternion::Quaternion;
 use spatial::twist::Twist;
 
 // The root mode, with the root's rotation and a floating base's velocity in the world.
-#[derive(Drop)]
+#[derive(Clone, Copy)]
 pub enum Mode {
     Fixed(Quaternion),
     Floating(Quaternion, Twist),

@@ -1,4 +1,6 @@
 // What forward dynamics keeps in the workspace, and the steps on one joint's numbers there (`forward_dynamics.rs`).
+#![tactic(auto)]
+
 pub mod body;
 pub mod eliminate;
 pub mod layout;

@@ -1,2 +1,4 @@
 // The visits of forward dynamics in their order, and the places that each sets.
+#![tactic(auto)]
+
 pub mod kernel;

@@ -1,0 +1,13 @@
+-- `make::make` meets its contract.
+use Rattle.calculations.proofs.make.make.Reads as reads
+use Rattle.calculations.proofs.make.make.Lts as lts
+use Rattle.calculations.proofs.make.portions.Reads as portions-reads
+use Rattle.calculations.proofs.make.times.Reads as times-reads
+use Rattle.calls.proofs.position.Position.begun.Reads as begun-reads
+use Rattle.calculations.proofs.make.make.Goals as goal
+
+pub returns-in-Times : goal.returns-in-Times
+returns-in-Times c = rw c.in-Times.is c.times.ensures
+
+pub returns-in-From : goal.returns-in-From
+returns-in-From c = rw (c.in-From.is, ← c.begun-from.ensures) c.portions.ensures

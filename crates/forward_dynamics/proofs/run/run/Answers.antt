@@ -1,0 +1,32 @@
+use mathlib.Core.Bool.{false}
+use mathlib.Core.List.{List}
+use mathlib.Core.Path.{refl}
+use Prim.Native.Nat.{ℕ}
+use native.Mathlib.Omega.{arith}
+use lib.Ieee.{Float}
+use Rattle.numbers.specs.declared.quaternion.Quaternion.{Quaternion}
+use Rattle.spatial.specs.declared.twist.Twist.{Twist}
+use Rattle.calls.specs.Position.{State, step_by, iterate}
+use Rattle.calls.specs.declared.plan.Plan.{Plan}
+use Rattle.calls.proofs.Steps.{run-stops, run-spent, run_on}
+use Rattle.forward_slots.specs.Layout.{results_place}
+use Rattle.forward_visits.specs.Kernel.{visits_by}
+use Rattle.forward_visits.specs.Inputs.{Inputs}
+use borrow.Author.Rules.{rules}
+use Rattle.forward_dynamics.proofs.run.run.Invariants.{}
+use Rattle.forward_dynamics.proofs.run.run.Goals as goal
+
+pub loop-left-init : goal.loop-left-init
+loop-left-init c = (refl, refl, c.requires.1, refl)
+
+pub returns-then-closed : goal.returns-then-closed
+returns-then-closed c = run-stops _ _ _ _ _ _ c.loop-left.invariant.3 c.if-closed.true
+
+pub step-s-requires : goal.step-s-requires
+step-s-requires c = (rw (c.loop-left.invariant.0, c.loop-left.invariant.1) c.requires.0, c.loop-left.invariant.2, c.if-closed.false)
+
+pub loop-left-preserved : goal.loop-left-preserved
+loop-left-preserved c = (search rules, search rules, c.step-s.ensures.1, run_on _ _ _ _ _ _ c.loop-left.invariant.3 c.loop-left-test.true c.if-closed.false c.step-s.ensures.0)
+
+pub returns : goal.returns
+returns c = run-spent _ _ _ _ _ _ c.loop-left.invariant.3 (omega arith)
