@@ -1,2 +1,4 @@
 // The requests of `desk` that make a calculation.
+#![tactic(auto)]
+
 pub mod request;

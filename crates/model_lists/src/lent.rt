@@ -8,14 +8,14 @@ use arm::model::Model;
 use numbers::double::both;
 
 // 32 numbers as bytes, if they are below 256.
-#[derive(Drop)]
+#[derive(Clone, Copy)]
 pub struct Bytes {
     pub fine: bool,
     pub bytes: [u8; 32],
 }
 
 // A lent model, if the lists make one.
-#[derive(Drop)]
+#[derive(Clone, Copy)]
 pub struct Lent {
     pub fine: bool,
     pub model: Model,

@@ -7,7 +7,7 @@ use words::list::{Listed, doubles, numbers};
 use words::read::{Cursor, Next, at_end, next_number};
 
 // The joint count, and how many items each list has.
-#[derive(Drop)]
+#[derive(Clone, Copy)]
 pub struct Sizes {
     pub n: usize,
     pub parents: usize,
@@ -18,7 +18,7 @@ pub struct Sizes {
     pub rotors: usize,
 }
 
-#[derive(Drop)]
+#[derive(Clone, Copy)]
 pub enum Handed {
     Got(Sizes),
     Bad,

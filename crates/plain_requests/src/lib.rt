@@ -1,2 +1,4 @@
 // The requests of `desk` that make the plain matrix.
+#![tactic(auto)]
+
 pub mod request;

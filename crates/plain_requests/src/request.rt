@@ -45,6 +45,7 @@ fn answer(m: Model, mode: Mode, q: &[f64], out: usize, text: &mut [u8], at: usiz
     put_answer(m, mode, q, &mut output[..out], text, at)
 }
 
+#[tactic(auto, unfolding(crate::specs::Request::plain_request, words::specs::Read::end))]
 pub fn plain(m: Model, floating: bool, s: &[u8], c: Cursor, text: &mut [u8], at: usize) -> usize
     requires { (c.at ≤ length s.now) × (at + room ≤ length text.old) }
     ensures { (at ≤ result) × (result ≤ at + room) × (take result text.new ≡ take at text.old ++ text_of (plain_request m floating (words_at s.now c))) }

@@ -1,3 +1,5 @@
 // What the requests that make a calculation hand in, and the buffers that they are lent.
+#![tactic(auto)]
+
 pub mod lent;
 pub mod read;

@@ -12,7 +12,7 @@ use words::list::{Listed, doubles, fill_doubles, numbers};
 use words::read::{Cursor, Next, at_end, next_number, next_word, same};
 
 // The four requests that make a calculation.
-#[derive(Drop)]
+#[derive(Clone, Copy)]
 pub enum Kind {
     Matrix,
     FloatingMatrix,
@@ -20,45 +20,45 @@ pub enum Kind {
     FloatingForward,
 }
 
-#[derive(Drop)]
+#[derive(Clone, Copy)]
 pub enum Named {
     Is(Kind),
     No,
 }
 
 // What was read, with the cursor past it.
-#[derive(Drop)]
+#[derive(Clone, Copy)]
 pub enum NextFlag {
     Is(bool, Cursor),
     No,
 }
 
-#[derive(Drop)]
+#[derive(Clone, Copy)]
 pub enum NextPosition {
     Is(Position, Cursor),
     No,
 }
 
-#[derive(Drop)]
+#[derive(Clone, Copy)]
 pub enum NextKind {
     Is(Kind, Cursor),
     No,
 }
 
-#[derive(Drop)]
+#[derive(Clone, Copy)]
 pub enum NextMode {
     Is(matrix::Mode, Cursor),
     No,
 }
 
-#[derive(Drop)]
+#[derive(Clone, Copy)]
 pub enum NextCalculation {
     Is(Calculation, Cursor),
     No,
 }
 
 // How many numbers each list of inputs has.
-#[derive(Drop)]
+#[derive(Clone, Copy)]
 pub struct Sizes {
     pub q: usize,
     pub qd: usize,
@@ -67,21 +67,21 @@ pub struct Sizes {
     pub loads: usize,
 }
 
-#[derive(Drop)]
+#[derive(Clone, Copy)]
 pub enum NextInputs {
     Is(Sizes, Cursor),
     No,
 }
 
 // The lengths that are lent, and how many budgets there are.
-#[derive(Drop)]
+#[derive(Clone, Copy)]
 pub struct Lent {
     pub ws: usize,
     pub out: usize,
     pub budgets: usize,
 }
 
-#[derive(Drop)]
+#[derive(Clone, Copy)]
 pub enum LastLent {
     Is(Lent),
     No,

@@ -1,4 +1,6 @@
 // What every request shares: what it answers, how long an answer can be, a refusal's text, and the answer to a line that is no request.
+#![tactic(auto)]
+
 ghost use Rattle.std.specs.Prelude.{◌≡◌, ◌++◌, ◌+◌, ◌≤◌, length, take};
 ghost use Rattle.replies.specs.Replies.{room, error_text, place_text, refused_text};
 
@@ -10,7 +12,7 @@ use words::write::{put, put_decimal, put_number};
 pub const ROOM: usize = 131072;
 
 // Where the answer ends, and the model that is current from then on.
-#[derive(Drop)]
+#[derive(Clone, Copy)]
 pub struct Reply {
     pub end: usize,
     pub model: Model,

@@ -18,7 +18,7 @@ use words::read::{Cursor, next_word, same};
 use writings::column::column;
 
 // The request that a word names.
-#[derive(Drop)]
+#[derive(Clone, Copy)]
 pub enum Name {
     Model,
     Lend,

@@ -1,2 +1,4 @@
 // The requests that reach the number routines.
+#![tactic(auto)]
+
 pub mod routines;

@@ -5,14 +5,13 @@ ghost use Rattle.replies.specs.Replies.{room, text_of};
 ghost use Rattle.routine_requests.specs.Routines.{only_double, only_read, root_line, root_request, half_turn_line, half_turn_request};
 
 use half_turn::HalfTurn;
-use numbers::double::double_of;
 use replies::error;
 use square_root::Root;
-use words::read::{Cursor, Next, at_end, next_number};
+use words::read::{Cursor, Next, at_end, double_of, next_number};
 use words::write::{put, put_double};
 
 // One double, and no word behind it.
-#[derive(Drop)]
+#[derive(Clone, Copy)]
 pub enum Only {
     Is(f64),
     No,

@@ -16,7 +16,7 @@ use words::read::{Cursor, at_end};
 use words::write::{put, put_number};
 
 // The cursor past a list, if it names only what there is.
-#[derive(Drop)]
+#[derive(Clone, Copy)]
 pub enum NextNamed {
     Is(Cursor),
     No,

@@ -3,7 +3,7 @@ ghost use Rattle.std.specs.Prelude.{◌≡◌, ◌+◌, ◌≤◌, ◌<◌, leng
 ghost use Rattle.words.specs.Line.{line_of, before_of};
 
 // A part of a block, gathered: where it ends, the line's length so far and whether the line has grown too long.
-#[derive(Drop)]
+#[derive(Clone, Copy)]
 pub struct Part {
     pub next: usize,
     pub len: usize,

@@ -5,11 +5,10 @@ ghost use Rattle.std.specs.Float.Ieee.{of_bits};
 ghost use Rattle.words.specs.Read.{ReadBy, next_of};
 ghost use Rattle.words.specs.List.{items, size, list, ListBy};
 
-use crate::read::{Cursor, Next, next_number};
-use numbers::double::double_of;
+use crate::read::{Cursor, Next, double_of, next_number};
 
 // How a list went: that many items, and the cursor past them.
-#[derive(Drop)]
+#[derive(Clone, Copy)]
 pub enum Listed {
     Got(usize, Cursor),
     Bad,

@@ -1,28 +1,30 @@
 // The words of a line, one after another, and words as numbers.
 ghost use Rattle.std.specs.Prelude.{◌≡◌, ◌+◌, ◌-◌, ◌≤◌, length, take, drop};
+ghost use Rattle.std.specs.Float.{binary64};
+ghost use Rattle.std.specs.Float.Ieee.{of_bits};
 ghost use Rattle.words.specs.Read.{run_of, is_space, is_letter, words_of, first_of, no_word, same_of, digit_of, number_of, number, words_at, ReadBy, next_of};
 
 // Where reading stands in a line.
-#[derive(Drop)]
+#[derive(Clone, Copy)]
 pub struct Cursor {
     pub at: usize,
 }
 
 // The bytes from start up to stop; where the two are equal, no word is left. The next cursor is at stop.
-#[derive(Drop)]
+#[derive(Clone, Copy)]
 pub struct Word {
     pub start: usize,
     pub stop: usize,
 }
 
-#[derive(Drop)]
+#[derive(Clone, Copy)]
 pub enum Number {
     Is(u64),
     No,
 }
 
 // The next word as a number, with the cursor past it.
-#[derive(Drop)]
+#[derive(Clone, Copy)]
 pub enum Next {
     Is(u64, Cursor),
     No,
@@ -142,6 +144,16 @@ pub fn number_of(w: &[u8]) -> Number
         i += 1;
     }
     Number::Is(v)
+}
+
+// The double of a pattern. Every pattern above infinity's, the sign aside, is NaN.
+pub fn double_of(bits: u64) -> f64
+    ensures { result ≡ of_bits binary64 bits }
+{
+    if 0x7ff0_0000_0000_0000 < bits % 0x8000_0000_0000_0000 {
+        return 0.0 / 0.0;
+    }
+    f64::from_bits(bits)
 }
 
 pub fn next_number(s: &[u8], c: Cursor) -> Next

@@ -1,14 +1,17 @@
 -- One turn of each loop of `read`, over plain lists and numbers. Assumes nothing.
-use mathlib.Core.Path.{◌≡◌}
-use mathlib.Core.Bool.{Bool, true, false}
+use mathlib.Core.Path.{◌≡◌, refl, sym, ◌∙◌, subst}
+use mathlib.Core.Bool.{Bool, true, false, not}
 use mathlib.Core.List.{List}
-use Prim.Native.Nat.{ℕ, suc, ◌+◌, ◌*◌, ◌^◌, ◌≤◌, ◌<◌}
+use Prim.Native.Nat.{ℕ, suc, ◌+◌, ◌*◌, ◌^◌, ◌≤◌, ◌<◌, ◌%◌}
 use native.Mathlib.Nat.{pow-suc, pow-le-pow_right, zero-lt-suc}
 use native.Mathlib.Numerals.{add-one}
 use native.Mathlib.Omega.{arith}
 use borrow.Author.Tests.{eq-eqb, ne_eqb, lt-ltb, le-ltb}
 use lib.ListN.{length, get_or, drop, drop_of_length-le}
 use lib.Seq.{drop-cons}
+use lib.Dec.{T}
+use lib.Ieee.{Float, nan, inf, fin, binary64, of_bits, is_nan, nan_bits, div}
+use lib.Ieee.Bits.{nan_bits_is, nan_bits_above}
 use Rattle.words.specs.declared.read.Number.TheVariants.{Is, No}
 use Rattle.words.specs.Read.{run_of, same_of, digit_of, read_from}
 
@@ -67,3 +70,21 @@ grown v i d h k = rw (add-one i, pow-suc 16 i) (let p = 16 ^ i in omega arith)
 
 pub small : (v i : ℕ) → v < 16 ^ i → i ≤ 15 → v < 16 ^ 15
 small v i h k = let e : 16 ^ i ≤ 16 ^ 15 = pow-le-pow_right (zero-lt-suc 15) k in omega arith
+
+-- ---- NaN patterns
+is-nan : (x : Float) → is_nan x ≡ true → x ≡ nan
+unfolding is_nan
+is-nan nan h = refl
+is-nan (inf s) h = let z : ◌≡◌ {A = ℕ} 0 1 = cc in absurd (omega arith)
+is-nan (fin s m e) h = let z : ◌≡◌ {A = ℕ} 0 1 = cc in absurd (omega arith)
+
+zero_by_zero : div binary64 (of_bits binary64 0) (of_bits binary64 0) ≡ nan
+unfolding div of_bits
+zero_by_zero = refl
+
+module _ (b : ℕ) where
+  pub nan-of : 0x7ff0_0000_0000_0000 < b % 0x8000_0000_0000_0000 → div binary64 (of_bits binary64 0) (of_bits binary64 0) ≡ of_bits binary64 b
+  nan-of h = zero_by_zero ∙ sym (is-nan (of_bits binary64 b) (sym (nan_bits_is binary64 b) ∙ nan_bits_above binary64 b ∙ lt-ltb _ _ h))
+
+  pub no-nan-of : b % 0x8000_0000_0000_0000 ≤ 0x7ff0_0000_0000_0000 → T (not (nan_bits binary64 b))
+  no-nan-of h = subst (λ (t : Bool). T (not t)) (sym (nan_bits_above binary64 b ∙ le-ltb _ _ h)) tt

@@ -12,9 +12,8 @@ use lib.Dec.{T, ltb}
 use lib.ListN.{length, length-append}
 use lib.Ieee.{Float, nan, inf, fin, binary64, fits, of_bits, to_bits, is_nan, ne}
 use lib.Ieee.Bits.{of_bits-to_bits, to_bits-lt}
-use lib.Ieee.Compare.{differs_from_itself}
+use lib.Ieee.Compare.{differs_from_itself, nan_differs}
 use borrow.Author.Tests.{ne_eqb, lt-ltb, le-ltb, le-leb, lt-leb, ltb-true, ltb-false}
-use Rattle.numbers.proofs.double.Patterns.{no_nan}
 use Rattle.io.specs.Digits.{last_digits, hex_digit_ascii, IsDigitCount}
 use Rattle.words.specs.declared.read.Number.TheVariants.{Is}
 use Rattle.words.specs.Read.{digit_of, read_from, number_of}
@@ -121,6 +120,12 @@ module _ (b : ℕ) (p : 0 < b) where
         ap (λ (x : ℕ). last_digits b x n) (sym (fewest-is (top - w) w n k f.0 (omega arith) f.1 f.2))
 
 -- ---- doubles
+pub no_nan : (x : Float) → ne x x ≡ false → is_nan x ≡ false
+unfolding is_nan
+no_nan nan h = sym nan_differs ∙ h
+no_nan (inf s) h = refl
+no_nan (fin s m e) h = refl
+
 pub nan-text : (x : Float) → ne x x ≡ true → bytes "nan" ≡ double_text x
 unfolding double_text is_nan
 nan-text x h = rw (differs_from_itself x (subst T (sym h) tt))

@@ -1,0 +1,20 @@
+-- `write::put_workspace` meets its contract.
+use Rattle.writings.specs.Write.{workspace_text}
+use Rattle.writings.proofs.write.put_workspace.Reads as reads
+use Rattle.writings.proofs.write.put_workspace.Lts as lts
+use Rattle.writings.proofs.write.all_are.Reads as all-are-reads
+use Rattle.words.proofs.write.put.Reads as put_reads
+use borrow.Author.Rules.{rules}
+use Rattle.writings.proofs.write.put_workspace.Goals as goal
+
+pub returns-then-all_are : goal.returns-then-all_are
+unfolding workspace_text
+returns-then-all_are c = (search rules, search rules, rw (← c.all_are.ensures, c.if-all_are.true) c.put.ensures.1)
+
+pub returns-then-all_are-2 : goal.returns-then-all_are-2
+unfolding workspace_text
+returns-then-all_are-2 c = (search rules, search rules, rw (← c.all_are.ensures, c.if-all_are.false, ← c.all_are-2.ensures, c.if-all_are-2.true) c.put-then-all_are-2.ensures.1)
+
+pub returns : goal.returns
+unfolding workspace_text
+returns c = (search rules, search rules, rw (← c.all_are.ensures, c.if-all_are.false, ← c.all_are-2.ensures, c.if-all_are-2.false) c.put-2.ensures.1)
