@@ -9,7 +9,7 @@ use requests::answer::answer;
 use words::line::gather;
 
 // Where reading stands in the block, the length of the line so far, whether it has grown too long, where the answers end, and the current model.
-#[derive(Drop)]
+#[derive(Clone, Copy)]
 pub struct Stand {
     pub next: usize,
     pub len: usize,

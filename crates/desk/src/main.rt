@@ -1,5 +1,7 @@
 // Reads requests from standard input, one to a line, and writes an answer for each.
-ghost use Rattle.std.specs.Prelude.{◌≡◌, ◌≤◌, ◌<◌, length, take};
+#![tactic(auto)]
+
+ghost use Rattle.std.specs.Prelude.{◌≡◌, ◌≤◌, ◌<◌, length, take, IfSome};
 ghost use Rattle.desk.specs.Block.{end_of};
 ghost use Rattle.desk.specs.Turns.{Within, Begun, Filled, Turned, state_of, unread, ahead};
 
@@ -8,10 +10,11 @@ mod block;
 use arm::model;
 use arm::model::Model;
 use block::{Stand, answers, end_line};
+use std::io::{Read, Stdin};
 
 // What is kept from turn to turn: block[next..end] has not been looked at yet, the length of the line so far, whether it has grown too long, the current
 // model, how many bytes of `out` the turn has put out, whether the input has ended, and whether to go on.
-#[derive(Drop)]
+#[derive(Clone, Copy)]
 struct Kept {
     next: usize,
     end: usize,
@@ -24,7 +27,7 @@ struct Kept {
 }
 
 // How many bytes were put out, and whether they were written.
-#[derive(Drop)]
+#[derive(Clone, Copy)]
 struct Put {
     count: usize,
     live: bool,
@@ -74,38 +77,40 @@ fn begin() -> Kept
     }
 }
 
-// A signal may interrupt a read, and `libc` does not say why one failed. So each that fails is tried again a few times: what does not pass is met again at once.
-fn read(block: &mut [u8; 65536]) -> isize {
-    let mut got = libc::read(0, block);
+// A signal may interrupt a read. So each that fails, for whatever reason, is tried again a few times: what does not pass is met again at once.
+fn read(input: &mut Stdin, block: &mut [u8; 65536]) -> Option<usize>
+    ensures { IfSome result (λ n. n ≤ length block.new) }
+{
+    let mut got = input.read(block);
     let mut tries = 8u8;
-    while tries > 0 && got < 0 {
-        got = libc::read(0, block);
+    while tries > 0 && got.is_err() {
+        got = input.read(block);
         tries -= 1;
     }
-    if got < 0 {
+    if got.is_err() {
         io::write_all(2, b"desk: the input cannot be read\n");
     }
-    got
+    got.ok()
 }
 
 // A new block, where nothing is left of the last one; it ends at 0 where it cannot be read or the input has ended.
-fn fill(block: &mut [u8; 65536], k: Kept) -> Kept
+fn fill(input: &mut Stdin, block: &mut [u8; 65536], k: Kept) -> Kept
     requires { Within k }
     ensures { Filled k block.old result block.new }
 {
     if k.next < k.end {
         return k;
     }
-    let got = read(block);
+    let got = read(input, block);
     let model = k.model;
     Kept {
         next: 0,
-        end: io::count(got, block),
+        end: got.unwrap_or(0),
         len: k.len,
         over: k.over,
         model,
         put: k.put,
-        ended: got == 0,
+        ended: got == Some(0),
         live: k.live,
     }
 }
@@ -140,11 +145,17 @@ fn serve(block: &[u8], line: &mut [u8; 65536], out: &mut [u8; 262144], k: Kept) 
 }
 
 // At most one block and one write. There is no byte to answer once the input has ended.
-fn turn(block: &mut [u8; 65536], line: &mut [u8; 65536], out: &mut [u8; 262144], k: Kept) -> Kept
+fn turn(
+    input: &mut Stdin,
+    block: &mut [u8; 65536],
+    line: &mut [u8; 65536],
+    out: &mut [u8; 262144],
+    k: Kept,
+) -> Kept
     requires { Within k }
     ensures { Turned k line.old (ahead k block.old result block.new) result block.new line.new out.new }
 {
-    let f = fill(block, k);
+    let f = fill(input, block, k);
     if f.next < f.end {
         return serve(block, line, out, f);
     }
@@ -173,14 +184,15 @@ fn last(line: &[u8; 65536], out: &mut [u8; 262144], k: Kept) -> usize
 
 // A proved loop has to end, and nothing says that the input does: the turns are counted down from a number that no run uses up.
 // Each turn but the last takes at least a byte. A line that a failed read cut short is not answered, nor one behind answers that could not be written.
-fn main() {
+fn main(rt: HostRuntime) {
+    let mut input = rt.stdin();
     let mut block = io::large_buffer();
     let mut line = io::large_buffer();
     let mut out = out_buffer();
     let mut k = begin();
     let mut turns = u64::MAX;
     while turns > 0 && k.live {
-        k = turn(&mut block, &mut line, &mut out, k);
+        k = turn(&mut input, &mut block, &mut line, &mut out, k);
         turns -= 1;
     }
     if k.ended {

@@ -1,16 +1,19 @@
 // For bench/run: a line `root COUNT`, `chain COUNT`, `axis COUNT`, `turn COUNT`, `wide COUNT` or `loads COUNT` makes so many calls, and the answer is what they come to;
 // to another word, or where the count is none, it is `error`.
+#![tactic(auto)]
+
 ghost use Rattle.std.specs.Prelude.{◌≤◌, length};
 
 mod loads;
 mod runs;
 
 use runs::Routine;
+use std::io::Read;
 use words::line::gather;
 use words::read::{Cursor, Next, next_number, next_word, same};
 use words::write::{put, put_double};
 
-#[derive(Drop)]
+#[derive(Clone, Copy)]
 pub enum Sum {
     Is(f64),
     No,
@@ -68,11 +71,10 @@ fn front(s: &[u8], n: usize) -> &[u8]
     &s[..n]
 }
 
-fn main() {
+fn main(rt: HostRuntime) {
     let mut block = io::large_buffer();
     let mut line = io::large_buffer();
-    let got = libc::read(0, &mut block);
-    let n = io::count(got, &block);
+    let n = rt.stdin().read(&mut block).unwrap_or(0);
     let p = gather(&block[..n], 0, &mut line, 0, false);
     let t = asked(front(&line, p.len));
     let end = put_sum(&mut line, t);

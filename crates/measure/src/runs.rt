@@ -2,11 +2,11 @@
 use builder::axis;
 use builder::axis::Axis;
 use half_turn::HalfTurn;
-use numbers::double::double_of;
 use numbers::vec3::Vec3;
 use square_root::Root;
+use words::read::double_of;
 
-#[derive(Drop)]
+#[derive(Clone, Copy)]
 pub enum Routine {
     // Roots that do not wait for each other.
     Root,
@@ -20,7 +20,7 @@ pub enum Routine {
 }
 
 // Where the numbers stand, and what the answers come to.
-#[derive(Drop)]
+#[derive(Clone, Copy)]
 struct Stand {
     at: u64,
     sum: f64,
