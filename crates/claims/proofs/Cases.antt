@@ -79,9 +79,9 @@ open-matrix : Type 0
 unfolding composite.composite_at composite.put_composite composite.shifted_of composite.to_parent_of composite.joined_of composite.force_of composite.entry_of columns.begun_of columns.frame_visit columns.add_into columns.composite_visit walk.base_rows walk.column_visit walk.column_found columns.root_columns columns.tested columns.root_visit columns.joint_visit columns.visit_of limits.rest_verdict limits.tame_verdict limits.inputs_verdict matrix.mass_matrix plan.plan_by sizes.put_pair sizes.add_rotor walk.put_entry walk.walk_step walk.climb walk.walk_of
 open-matrix = Unit {0}
 
-open_plain : Type 0
+open-plain : Type 0
 unfolding gather.gather gather.composite_to entries.along entries.to_root entries.number_of plain.joint_with plain.joint_entry plain.base_entry plain.corner_entry plain.entry_at plain.plain_entries plain.plain_matrix plain.plain_verdict plain.plain_call
-open_plain = Unit {0}
+open-plain = Unit {0}
 
 open-standing : Type 0
 unfolding tab plan.plan_by plain.joint_with tests.carries_in stands.reframed stands.composite_touched stands.own_touched stands.path_touched stands.stands_between stands.joint_mark stands.mark_at stands.marks_of stands.stands_verdict stands.stands_call
@@ -126,7 +126,7 @@ unfolding rotors open-numbers open-spatial open-arm open-calls open-matrix open-
 rotor-cases = refl
 
 pub plain-cases : Hold plainly
-unfolding plainly open-numbers open-spatial open-arm open-calls open-matrix open_plain
+unfolding plainly open-numbers open-spatial open-arm open-calls open-matrix open-plain
 plain-cases = refl
 
 pub standing-cases : Hold standing

@@ -59,5 +59,5 @@ plain-matrix-one κs a r s e f = one-result
 pub marks-room-one : OneResult marks-room.Post (λ κs r e. r)
 marks-room-one κs a r s e f d h = one-result d.0 h.0
 
-pub stands_one : OneResult {S = Verdict × List Bool} stands.Post (λ κs r e. (r, e.1.1.1.1.1.1.1.1.0.now))
-stands_one κs a r s e f = one-result
+pub stands-one : OneResult {S = Verdict × List Bool} stands.Post (λ κs r e. (r, e.1.1.1.1.1.1.1.1.0.now))
+stands-one κs a r s e f = one-result

@@ -64,17 +64,17 @@ unfolding motion_of motion_by
 moves kinds axes j e k = let z : fixed_by (motion_of kinds axes j) ≡ true = rw k in false≢true (sym e ∙ z)
 
 module _ (m : Model) (h : NoRotor m) (p : Plan) (n : p.n ≡ m.n) where
-  same_second : (forces : List Float) (j : ℕ) (ws : List Float) → j < p.n
+  same-second : (forces : List Float) (j : ℕ) (ws : List Float) → j < p.n
       → second_visit p m.parents m.kinds m.axes m.rotors forces j ws ≡ bare_second p m.parents m.kinds m.axes forces j ws
   unfolding second_visit bare_second
-  same_second forces j ws l = rw (same-eliminated p (motion_of m.kinds m.axes j) (rotor_of m.rotors j) (actives_of m.kinds j) forces j ws (λ e. h j (omega (arith, n)) (moves m.kinds m.axes j e)))
+  same-second forces j ws l = rw (same-eliminated p (motion_of m.kinds m.axes j) (rotor_of m.rotors j) (actives_of m.kinds j) forces j ws (λ e. h j (omega (arith, n)) (moves m.kinds m.axes j e)))
 
   same-pass : (rotation : Quaternion) (velocity : Twist) (q qd forces : List Float) (k : ℕ) (ws : List Float)
       → forward.pass_visit p rotation velocity m q qd forces k ws ≡ bare_pass p rotation velocity m q qd forces k ws
   unfolding forward.pass_visit bare_pass
   same-pass rotation velocity q qd forces k ws =
       chosen ◌≡◌ (ltb k p.n) (λ e. refl)
-      (λ e. chosen ◌≡◌ (ltb k (p.n + p.n)) (λ g. same_second forces (p.n + p.n - 1 - k) ws (omega (arith, ltb-false k p.n e, ltb-true k (p.n + p.n) g))) (λ g. refl))
+      (λ e. chosen ◌≡◌ (ltb k (p.n + p.n)) (λ g. same-second forces (p.n + p.n - 1 - k) ws (omega (arith, ltb-false k p.n e, ltb-true k (p.n + p.n) g))) (λ g. refl))
 
   same-forward : (rotation : Quaternion) (velocity : Twist) (i : Inputs) (k : ℕ) (ws : List Float)
       → forward.visit_of p rotation velocity m i.q i.qd i.forces i.loaded i.loads k ws ≡ bare_forward_visit p rotation velocity m i k ws

@@ -1,1 +1,2 @@
 // What is proved of the public calls together; no code.
+#![tactic(auto)]

@@ -25,9 +25,9 @@ module _ (lead s : List ℕ) (long : 16 ≤ length s) where
   same-trailer = rw (past 16 long)
 
   module _ (t : Trailer) (within : t.distance ≤ length s) where
-    same_head : head_verdict (length (lead ++ s)) t ≡ head_verdict (length s) t
+    same-head : head_verdict (length (lead ++ s)) t ≡ head_verdict (length s) t
     unfolding head_verdict is_distance
-    same_head =
+    same-head =
         rw (
           le-ltb (length (lead ++ s)) 16 (omega (arith, length-append lead s, long)),
           le-ltb (length s) 16 long,
@@ -41,7 +41,7 @@ module _ (lead s : List ℕ) (long : 16 ≤ length s) where
 
     same-verdict : read_verdict (lead ++ s) t ≡ read_verdict s t
     unfolding read_verdict
-    same-verdict = rw (same_head, same-samples)
+    same-verdict = rw (same-head, same-samples)
 
     further : log_in (lead ++ s) t ≡ record { a = (log_in s t).a; count = (log_in s t).count; first = length lead + (log_in s t).first }
     unfolding log_in first_of

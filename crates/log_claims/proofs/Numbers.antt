@@ -78,47 +78,47 @@ samples-back a (suc k) xs l h f =
 
 -- ---- what is read is put
 
-bytes_drop : (n : ℕ) (l : List ℕ) → Bytes l → Bytes (drop n l)
-bytes_drop n l f i = rw (get_or-drop n l i 0) (f (n + i))
+bytes-drop : (n : ℕ) (l : List ℕ) → Bytes l → Bytes (drop n l)
+bytes-drop n l f i = rw (get_or-drop n l i 0) (f (n + i))
 
-pub number_small : (w : ℕ) (l : List ℕ) → Bytes l → number_of w l < 256 ^ w
+pub number-small : (w : ℕ) (l : List ℕ) → Bytes l → number_of w l < 256 ^ w
 unfolding number_of
-number_small zero l f = omega arith
-number_small (suc w) [] f = rw (pow-suc 256 w) (let e = number_small w [] f in let p = 256 ^ w in let n = number_of w [] in omega arith)
-number_small (suc w) (b ∷ l) f =
-    rw (pow-suc 256 w) (let e = number_small w l (λ i. f (suc i)) in let p = 256 ^ w in let n = number_of w l in omega (arith, f 0))
+number-small zero l f = omega arith
+number-small (suc w) [] f = rw (pow-suc 256 w) (let e = number-small w [] f in let p = 256 ^ w in let n = number_of w [] in omega arith)
+number-small (suc w) (b ∷ l) f =
+    rw (pow-suc 256 w) (let e = number-small w l (λ i. f (suc i)) in let p = 256 ^ w in let n = number_of w l in omega (arith, f 0))
 
-pub bytes_back : (w : ℕ) (l : List ℕ) → w ≤ length l → Bytes l → bytes_of w (number_of w l) ≡ take w l
+pub bytes-back : (w : ℕ) (l : List ℕ) → w ≤ length l → Bytes l → bytes_of w (number_of w l) ≡ take w l
 unfolding number_of bytes_of
-bytes_back zero l h f = refl
-bytes_back (suc w) [] h f = absurd (omega arith)
-bytes_back (suc w) (b ∷ l) h f =
+bytes-back zero l h f = refl
+bytes-back (suc w) [] h f = absurd (omega arith)
+bytes-back (suc w) (b ∷ l) h f =
     let n = number_of w l in
     let r : (n * 256 + b) % 256 ≡ b = omega (arith, f 0) in
     let q : (n * 256 + b) / 256 ≡ n = omega (arith, f 0) in
-    rw (r, q, bytes_back w l (omega arith) (λ i. f (suc i)))
+    rw (r, q, bytes-back w l (omega arith) (λ i. f (suc i)))
 
-no_nan : (x : Float) → finite x ≡ true → is_nan x ≡ false
+no-nan : (x : Float) → finite x ≡ true → is_nan x ≡ false
 unfolding finite is_nan
-no_nan nan e = absurd (false≢true e)
-no_nan (inf s) e = refl
-no_nan (fin s m e') e = refl
+no-nan nan e = absurd (false≢true e)
+no-nan (inf s) e = refl
+no-nan (fin s m e') e = refl
 
 double-again : (l : List ℕ) → 8 ≤ length l → Bytes l → finite (double_of l) ≡ true → bytes_of 8 (to_bits binary64 (double_of l)) ≡ take 8 l
 double-again l h f e =
-    rw (to_bits-of_bits binary64 (number_of 8 l) (number_small 8 l f) (rw (no_nan (double_of l) e) tt))
-    (bytes_back 8 l h f)
+    rw (to_bits-of_bits binary64 (number_of 8 l) (number-small 8 l f) (rw (no-nan (double_of l) e) tt))
+    (bytes-back 8 l h f)
 
 -- each of them is finite
 abbrev Finite : List Float → Type 0
 Finite v = (k : ℕ) → k < length v → finite (get_or v k nan) ≡ true
 
-each_to : (v : List Float) (n k : ℕ) → finite_to v n ≡ true → k < n → finite (get_or v k nan) ≡ true
+each-to : (v : List Float) (n k : ℕ) → finite_to v n ≡ true → k < n → finite (get_or v k nan) ≡ true
 unfolding finite_to
-each_to v zero k e h = absurd (omega arith)
-each_to v (suc n) k e h =
+each-to v zero k e h = absurd (omega arith)
+each-to v (suc n) k e h =
     let p = both-are (finite_to v n) (finite (get_or v n nan)) e in
-    ⊎_elim (λ (q : k ≡ n). rw q p.1) (λ (q : k < n). each_to v n k p.0 q) (eq-or-lt_of_le (le_of_suc-le-suc h))
+    ⊎_elim (λ (q : k ≡ n). rw q p.1) (λ (q : k < n). each-to v n k p.0 q) (eq-or-lt_of_le (le_of_suc-le-suc h))
 
 doubles-again : (n : ℕ) (l : List ℕ) → 8 * n ≤ length l → Bytes l → Finite (doubles_of n l) → doubles_bytes (doubles_of n l) ≡ take (8 * n) l
 unfolding doubles_of doubles_bytes
@@ -127,7 +127,7 @@ doubles-again (suc n) l h f e =
     let m : 8 * suc n ≡ 8 + 8 * n = omega arith in
     rw (
       double-again l (omega arith) f (e 0 (omega arith)),
-      doubles-again n (drop 8 l) (rw (length-drop 8 l) (omega arith)) (bytes_drop 8 l f) (λ k j. e (suc k) (omega arith)),
+      doubles-again n (drop 8 l) (rw (length-drop 8 l) (omega arith)) (bytes-drop 8 l f) (λ k j. e (suc k) (omega arith)),
       m,
       take-add 8 (8 * n) l,
     )
@@ -138,7 +138,7 @@ sample-again a l h f e =
     let z : size_of a - 24 * a ≡ 0 = omega (arith, size_is a) in
     let m : size_of a ≡ 8 * (3 * a) = omega (arith, size_is a) in
     let g : all_finite (doubles_of (3 * a) l) ≡ true = rw z at e in
-    rw (z, m) (doubles-again (3 * a) l (omega (arith, m)) f (λ k j. each_to (doubles_of (3 * a) l) (length (doubles_of (3 * a) l)) k g j))
+    rw (z, m) (doubles-again (3 * a) l (omega (arith, m)) f (λ k j. each-to (doubles_of (3 * a) l) (length (doubles_of (3 * a) l)) k g j))
 
 -- a sample that is fine is finite
 one-fine : (i : ℕ) (x : Sample) → sample_verdict i x ≡ Fine → all_finite x.numbers ≡ true
@@ -161,7 +161,7 @@ samples-again a i (suc k) l h f e =
     let p = both-fine (sample_verdict i (sample_of S a l)) (samples_verdict (suc i) (samples_of S a k (drop S l))) e in
     rw (
       sample-again a l (omega arith) f (one-fine i (sample_of S a l) p.0),
-      samples-again a (suc i) k (drop S l) (rw (length-drop S l) (omega arith)) (bytes_drop S l f) p.1,
+      samples-again a (suc i) k (drop S l) (rw (length-drop S l) (omega arith)) (bytes-drop S l f) p.1,
       c,
       take-add S (S * k) l,
     )
