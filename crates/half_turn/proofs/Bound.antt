@@ -5,7 +5,7 @@ use mathlib.Core.Bool.{Bool, true, false, ◌&&◌, ◌||◌, true≢false}
 use Prim.Native.Nat.{ℕ, zero, suc, ◌+◌, ◌*◌, ◌^◌, ◌≤◌, ◌<◌, zero-le}
 use native.Mathlib.Nat.{le_trans, le_of_eq, le_of_lt, lt_of_le_of_lt, mul-one, zero-mul, mul_right_comm, mul-mul-mul_comm, mul-le-mul, mul-le-mul_right, eq-or-lt_of_le, le_of_mul-le-mul_right, mul-pos, mul-lt-mul_of_pos_right}
 use native.Mathlib.Omega.{arith}
-use lib.IntN.{ℤ, pos}
+use lib.IntN.{ℤ}
 use lib.Dec.{T, ltb, eqb, ltb→lt, lt→ltb, eqb→eq, eqb_refl, lit≤, lit<}
 use lib.Ieee.{Float, nan, inf, fin, binary64, up, down, unlike, round, mul, neg, le, of_bits, of_int}
 use lib.Ieee.Fits.{down_pos, and_i, and_l, and_r}

@@ -1,5 +1,5 @@
 -- A LEAD-IN OF ANY BYTES changes nothing in the answer but where the first sample stands. Assumes nothing.
-use mathlib.Core.Path.{◌≡◌, refl, ◌∙◌}
+use mathlib.Core.Path.{◌≡◌, refl}
 use mathlib.Core.List.{List, ◌++◌}
 use Prim.Native.Nat.{ℕ, ◌+◌, ◌-◌, ◌≤◌}
 use native.Mathlib.Omega.{arith}
@@ -11,7 +11,6 @@ use Rattle.refusals.specs.declared.Verdict.TheVariants.{Fine, Refused}
 use Rattle.log_reading.specs.Log.{trailer_in, is_distance, head_verdict, first_of, samples_in, read_verdict, reading_by, log_in, reading_of, samples_at}
 use Rattle.log_reading.specs.declared.Log.{Log}
 use Rattle.log_reading.specs.declared.Trailer.{Trailer}
-use Rattle.log_reading.specs.declared.Reading.TheVariants.{Accepted}
 use Rattle.log_claims.specs.Log.{moved}
 
 module _ (lead s : List ℕ) (long : 16 ≤ length s) where

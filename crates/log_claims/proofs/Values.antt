@@ -1,8 +1,8 @@
 -- NUMBER k OF SAMPLE i, as `number_at` answers it, is that of the samples. Assumes nothing.
 use mathlib.Core.Bool.{true}
 use mathlib.Core.List.{List}
-use mathlib.Core.Path.{◌≡◌, refl, sym, ap, ◌∙◌, subst}
-use Prim.Native.Nat.{ℕ, ◌+◌, ◌-◌, ◌*◌, ◌≤◌, ◌<◌}
+use mathlib.Core.Path.{◌≡◌, refl, sym, subst}
+use Prim.Native.Nat.{ℕ, ◌+◌, ◌*◌, ◌≤◌, ◌<◌}
 use native.Mathlib.Nat.{mul-le-mul_left}
 use native.Mathlib.Numerals.{add-one}
 use native.Mathlib.Omega.{arith}
@@ -10,9 +10,9 @@ use lib.ListN.{length, get_or, drop}
 use lib.Seq.{drop-drop}
 use lib.Ieee.{nan}
 use borrow.Author.Tests.{lt-ltb}
-use Rattle.log_samples.specs.Sample.{size_of, sample_of, samples_of}
-use Rattle.log_samples.proofs.Laws.{sample-at, size_is}
-use Rattle.log_reading.specs.Log.{trailer_in, first_of, log_in, reading_of, samples_at, stands_at, holds, value_of}
+use Rattle.log_samples.specs.Sample.{size_of}
+use Rattle.log_samples.proofs.Laws.{sample-at}
+use Rattle.log_reading.specs.Log.{trailer_in, log_in, reading_of, samples_at, stands_at, holds, value_of}
 use Rattle.log_reading.specs.declared.Log.{Log}
 use Rattle.log_reading.specs.declared.Trailer.{Trailer}
 use Rattle.log_reading.specs.declared.Reading.TheVariants.{Accepted}

@@ -1,9 +1,5 @@
 use mathlib.Core.Path.{refl}
-use mathlib.Core.List.{List}
-use Prim.Native.Nat.{ℕ, zero-le}
-use lib.ListN.{get_or}
-use lib.Ieee.{Float, nan}
-use Rattle.numbers.specs.Double.{◌⊘◌}
+use Prim.Native.Nat.{zero-le}
 use Rattle.numbers.proofs.Filled.{none, more, full}
 use Rattle.base_solve.specs.BaseSolve.{over_of}
 use Rattle.base_solve.proofs.over.Invariants.{over_at}

@@ -1,11 +1,7 @@
 use mathlib.Core.Path.{refl}
-use mathlib.Core.List.{List}
-use Prim.Native.Nat.{ℕ, zero-le}
-use lib.Ieee.{Float}
-use Rattle.square_root.specs.SquareRoot.{root_of}
-use Rattle.mat6.specs.Mat6.{cell}
+use Prim.Native.Nat.{zero-le}
 use Rattle.numbers.proofs.Filled.{none, more, full}
-use Rattle.base_solve.specs.BaseSolve.{root_or, scale_of}
+use Rattle.base_solve.specs.BaseSolve.{scale_of}
 use Rattle.base_solve.proofs.scale.Invariants.{scale_at}
 use Rattle.base_solve.proofs.scale.Goals as goal
 

@@ -1,8 +1,6 @@
 use mathlib.Core.Path.{refl}
-use Prim.Native.Nat.{ℕ, zero-le}
+use Prim.Native.Nat.{zero-le}
 use lib.ListN.{length}
-use lib.Ieee.{Float}
-use Rattle.numbers.specs.Double.{0·0}
 use Rattle.numbers.proofs.Filled.{none, more, full}
 use Rattle.slots.specs.Slots.{cleared}
 use Rattle.slots.proofs.clear.Invariants.{zero_at}

@@ -1,8 +1,6 @@
 use mathlib.Core.Path.{refl}
-use mathlib.Core.List.{List}
-use Prim.Native.Nat.{ℕ, ◌+◌, zero-le}
-use lib.ListN.{length, get_or}
-use lib.Ieee.{Float, nan}
+use Prim.Native.Nat.{zero-le}
+use lib.ListN.{length}
 use Rattle.numbers.proofs.Filled.{none, more, full}
 use Rattle.slots.specs.Slots.{part_of}
 use Rattle.slots.proofs.copy_from.Invariants.{from_at}

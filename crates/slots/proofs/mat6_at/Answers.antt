@@ -1,8 +1,5 @@
 use mathlib.Core.Path.{refl}
-use mathlib.Core.List.{List}
-use Prim.Native.Nat.{ℕ, ◌+◌, zero-le}
-use lib.ListN.{get_or}
-use lib.Ieee.{Float, nan}
+use Prim.Native.Nat.{zero-le}
 use Rattle.numbers.proofs.Filled.{none, more, full}
 use Rattle.slots.specs.Slots.{mat6_at}
 use Rattle.slots.proofs.mat6_at.Invariants.{entry_at}

@@ -3,7 +3,7 @@ use mathlib.Core.Path.{sym, ◌∙◌}
 use borrow.Author.Tests.{lt-ltb, le-ltb}
 use Rattle.refusals.specs.Refusals.{found}
 use Rattle.refusals.proofs.Searches.{looks-lowest, looks-hit, looks-next, looks-last}
-use Rattle.arm.specs.Model.{wild_joint, wild_of}
+use Rattle.arm.specs.Model.{wild_of}
 use Rattle.arm.proofs.model.Known.{good}
 use Rattle.arm.proofs.model.wild.Goals as goal
 

@@ -1,11 +1,9 @@
-use mathlib.Core.List.{List}
 use mathlib.Core.Path.{refl}
-use Prim.Native.Nat.{ℕ, zero-le}
+use Prim.Native.Nat.{zero-le}
 use native.Mathlib.Omega.{arith}
 use borrow.Author.Tests.{lt-ltb, le-ltb}
-use lib.ListN.{get_or}
 use Rattle.numbers.proofs.Filled.{none, more, full}
-use Rattle.builder.specs.Build.{byte_slots, slot_by}
+use Rattle.builder.specs.Build.{byte_slots}
 use Rattle.builder.proofs.build.byte_slots.Invariants.{slot_at}
 use Rattle.builder.proofs.build.byte_slots.Goals as goal
 use Rattle.builder.proofs.build.byte_slots.Goals.{then-j-n, else-j-n}

@@ -1,15 +1,10 @@
-use mathlib.Core.Bool.{cond}
-use mathlib.Core.List.{List}
 use mathlib.Core.Path.{refl}
-use Prim.Native.Nat.{ℕ, zero-le}
+use Prim.Native.Nat.{zero-le}
 use native.Mathlib.Omega.{arith}
 use borrow.Author.Tests.{lt-ltb, le-ltb}
-use lib.ListN.{length, get_or}
-use lib.Ieee.{Float, nan}
-use Rattle.numbers.specs.Double.{0·0}
+use lib.ListN.{length}
 use Rattle.numbers.proofs.Filled.{none, more, full}
 use Rattle.builder.specs.Build.{double_slots}
-use lib.Dec.{ltb}
 use Rattle.builder.proofs.build.double_slots.Invariants.{slot_at}
 use Rattle.builder.proofs.build.double_slots.Goals as goal
 use Rattle.builder.proofs.build.double_slots.Goals.{then-t-s, else-t-s}

@@ -1,14 +1,13 @@
-use mathlib.Core.List.{List}
 use mathlib.Core.Path.{◌≡◌, refl}
 use mathlib.Core.Logic.{◌≢◌}
-use Prim.Native.Nat.{ℕ, ◌<◌, ◌≤◌, zero-le}
+use Prim.Native.Nat.{◌<◌, ◌≤◌, zero-le}
 use native.Mathlib.Omega.{arith}
 use lib.ListN.{get_or}
 use borrow.Author.Tests.{lt-ltb, le-ltb, eq-eqb, ne_eqb}
-use lib.Ieee.{Float, nan}
+use lib.Ieee.{nan}
 use Rattle.numbers.specs.Double.{0·0}
 use Rattle.numbers.proofs.Filled.{none, more, full}
-use Rattle.builder.specs.Build.{rotor_slot, rotor_slots, slot_by}
+use Rattle.builder.specs.Build.{rotor_slot, rotor_slots}
 use Rattle.builder.proofs.build.rotor_slots.Invariants.{slot_at}
 use Rattle.builder.proofs.build.rotor_slots.Goals as goal
 

@@ -5,12 +5,6 @@ use native.Mathlib.Omega.{arith}
 use lib.ListN.{length}
 use lib.Seq.{length-take-le}
 use Rattle.calculation_requests.proofs.Fronts.{front-few}
-use Rattle.calculation_requests.proofs.request.answer.Reads as reads
-use Rattle.calculation_requests.proofs.request.answer.Lts as lts
-use Rattle.words.proofs.list.double_buffer.Reads as double-buffer-reads
-use Rattle.words.proofs.list.number_buffer.Reads as number-buffer-reads
-use Rattle.readings.proofs.lent.output_buffer.Reads as output-buffer-reads
-use Rattle.calculation_requests.proofs.request.put_answer.Reads as put-answer-reads
 use Rattle.calculation_requests.proofs.request.answer.Goals as goal
 
 pub slice_bounds-workspace-end : goal.slice_bounds-workspace-end

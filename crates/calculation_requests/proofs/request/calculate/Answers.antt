@@ -4,16 +4,6 @@ use native.Mathlib.Omega.{arith}
 use lib.Seq.{length-take-le}
 use Rattle.calculation_requests.proofs.Fronts.{front-few}
 use Rattle.calculation_requests.specs.Request.{calculate_request}
-use Rattle.calculation_requests.proofs.request.calculate.Reads as reads
-use Rattle.calculation_requests.proofs.request.calculate.Lts as lts
-use Rattle.readings.proofs.read.last_lent.Reads as last-lent-reads
-use Rattle.readings.proofs.read.next_calculation.Reads as next-calculation-reads
-use Rattle.readings.proofs.read.next_inputs.Reads as next-inputs-reads
-use Rattle.calculation_requests.proofs.request.answer.Reads as answer-reads
-use Rattle.words.proofs.list.double_buffer.Reads as double-buffer-reads
-use Rattle.calculation_requests.proofs.request.idle.Reads as idle-reads
-use Rattle.words.proofs.list.number_buffer.Reads as number-buffer-reads
-use Rattle.replies.proofs.error.Reads as error-reads
 use Rattle.calculation_requests.proofs.request.calculate.Goals as goal
 
 pub returns-in_default : goal.returns-in_default

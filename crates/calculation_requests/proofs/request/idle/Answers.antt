@@ -1,6 +1,4 @@
 -- `request::idle` meets its contract.
-use Rattle.calculation_requests.proofs.request.idle.Reads as reads
-use Rattle.calculation_requests.proofs.request.idle.Lts as lts
 use Rattle.calculation_requests.proofs.request.idle.Goals as goal
 
 pub returns-in-Times : goal.returns-in-Times

@@ -1,12 +1,6 @@
 -- `request::repeat` meets its contract.
 use borrow.Author.Tests.{lt-ltb, le-ltb, eq-eqb, ne_eqb}
 use Rattle.calculation_requests.specs.Request.{repeat_request}
-use Rattle.calculation_requests.proofs.request.repeat.Reads as reads
-use Rattle.calculation_requests.proofs.request.repeat.Lts as lts
-use Rattle.readings.proofs.read.next_kind.Reads as next-kind-reads
-use Rattle.calculation_requests.proofs.request.calculate.Reads as calculate-reads
-use Rattle.replies.proofs.error.Reads as error-reads
-use Rattle.words.proofs.read.next_number.Reads as next-number-reads
 use borrow.Author.Rules.{rules}
 use Rattle.calculation_requests.proofs.request.repeat.Goals as goal
 

@@ -1,11 +1,5 @@
 -- `request::resume` meets its contract.
 use Rattle.calculation_requests.specs.Request.{resume_request}
-use Rattle.calculation_requests.proofs.request.resume.Reads as reads
-use Rattle.calculation_requests.proofs.request.resume.Lts as lts
-use Rattle.readings.proofs.read.next_kind.Reads as next-kind-reads
-use Rattle.readings.proofs.read.next_position.Reads as next-position-reads
-use Rattle.calculation_requests.proofs.request.calculate.Reads as calculate-reads
-use Rattle.replies.proofs.error.Reads as error-reads
 use borrow.Author.Rules.{rules}
 use Rattle.calculation_requests.proofs.request.resume.Goals as goal
 

@@ -1,10 +1,6 @@
 -- `make::divided` meets its contract.
 use mathlib.Core.Path.{refl, ◌∙◌}
 use Rattle.calculations.proofs.make.Laws.{begun-shut, begun-open}
-use Rattle.calculations.proofs.make.divided.Reads as reads
-use Rattle.calculations.proofs.make.divided.Lts as lts
-use Rattle.dynamics.proofs.start.Reads as start-reads
-use Rattle.calculations.proofs.make.portions.Reads as portions-reads
 use borrow.Author.Rules.{rules}
 use Rattle.calculations.proofs.make.divided.Goals as goal
 

@@ -1,9 +1,4 @@
 -- `make::make` meets its contract.
-use Rattle.calculations.proofs.make.make.Reads as reads
-use Rattle.calculations.proofs.make.make.Lts as lts
-use Rattle.calculations.proofs.make.portions.Reads as portions-reads
-use Rattle.calculations.proofs.make.times.Reads as times-reads
-use Rattle.calls.proofs.position.Position.begun.Reads as begun-reads
 use Rattle.calculations.proofs.make.make.Goals as goal
 
 pub returns-in-Times : goal.returns-in-Times

@@ -4,10 +4,6 @@ use Prim.Native.Nat.{◌<◌}
 use native.Mathlib.Omega.{arith}
 use lib.ListN.{length, length-set}
 use Rattle.calculations.proofs.make.Laws.{once-whole, once-begun, first_count}
-use Rattle.calculations.proofs.make.once.Reads as reads
-use Rattle.calculations.proofs.make.once.Lts as lts
-use Rattle.dynamics.proofs.whole.Reads as whole-reads
-use Rattle.calculations.proofs.make.divided.Reads as divided-reads
 use Rattle.calculations.proofs.make.once.Goals as goal
 
 pub returns-then-budgets-eq0 : goal.returns-then-budgets-eq0

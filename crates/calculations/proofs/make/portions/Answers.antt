@@ -6,9 +6,6 @@ use lib.ListN.{length, length-set}
 use Rattle.forward_visits.specs.Inputs.{inputs_by}
 use Rattle.dynamics.specs.Calculation.{work_by}
 use Rattle.calculations.proofs.make.Laws.{portion-on, portions-end}
-use Rattle.calculations.proofs.make.portions.Reads as reads
-use Rattle.calculations.proofs.make.portions.Lts as lts
-use Rattle.dynamics.proofs.portion.Reads as portion-reads
 use borrow.Author.Rules.{rules}
 use Rattle.calculations.proofs.make.portions.Goals as goal
 

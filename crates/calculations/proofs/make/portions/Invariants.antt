@@ -5,9 +5,6 @@ use Rattle.forward_visits.specs.Inputs.{inputs_by}
 use Rattle.dynamics.specs.Calculation.{work_by}
 use Rattle.calculations.specs.Make.{in_portions}
 use Rattle.calculations.proofs.make.Laws.{after}
-use Rattle.calculations.proofs.make.portions.Reads as reads
-use Rattle.calculations.proofs.make.portions.Lts as lts
-use Rattle.dynamics.proofs.portion.Reads as portion-reads
 use Rattle.calculations.proofs.make.portions.Given as goal
 
 abbrev pub invariant-loop-k : goal.invariant-loop-k

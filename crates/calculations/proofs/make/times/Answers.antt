@@ -2,9 +2,6 @@
 use mathlib.Core.Path.{refl, sym, ◌∙◌}
 use Rattle.calculations.specs.Make.{times_of, made_by}
 use Rattle.calculations.proofs.make.Laws.{again-on, again-end}
-use Rattle.calculations.proofs.make.times.Reads as reads
-use Rattle.calculations.proofs.make.times.Lts as lts
-use Rattle.calculations.proofs.make.once.Reads as once-reads
 use borrow.Author.Rules.{rules}
 use Rattle.calculations.proofs.make.times.Goals as goal
 

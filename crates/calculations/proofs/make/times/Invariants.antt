@@ -5,9 +5,6 @@ use Rattle.forward_visits.specs.Inputs.{inputs_by}
 use Rattle.dynamics.specs.Calculation.{work_by}
 use Rattle.calculations.specs.Make.{again_of, made_by}
 use Rattle.calls.specs.Position.{iterate}
-use Rattle.calculations.proofs.make.times.Reads as reads
-use Rattle.calculations.proofs.make.times.Lts as lts
-use Rattle.calculations.proofs.make.once.Reads as once-reads
 use Rattle.calculations.proofs.make.times.Given as goal
 
 abbrev pub invariant-loop-left : goal.invariant-loop-left

@@ -1,7 +1,7 @@
 use mathlib.Core.Path.{ap}
 use Rattle.refusals.specs.Refusals.{named_of}
 use Rattle.refusals.proofs.Searches.{looks-lowest, looks-hit, looks-next, looks-last}
-use Rattle.calls.specs.Checks.{far_turn, turns_verdict}
+use Rattle.calls.specs.Checks.{turns_verdict}
 use Rattle.calls.proofs.checks.check_turns.Goals as goal
 
 pub loop-j-init : goal.loop-j-init

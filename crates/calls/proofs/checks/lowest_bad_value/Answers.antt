@@ -1,5 +1,4 @@
 use Rattle.refusals.proofs.Searches.{looks-lowest, looks-hit, looks-next, looks-last}
-use Rattle.calls.specs.Checks.{bad_value}
 use Rattle.calls.proofs.checks.lowest_bad_value.Goals as goal
 
 pub loop-j-init : goal.loop-j-init

@@ -1,17 +1,6 @@
-use mathlib.Core.Bool.{false}
-use mathlib.Core.List.{List}
 use mathlib.Core.Path.{refl}
-use Prim.Native.Nat.{ℕ}
 use native.Mathlib.Omega.{arith}
-use lib.Ieee.{Float}
-use Rattle.numbers.specs.declared.quaternion.Quaternion.{Quaternion}
-use Rattle.spatial.specs.declared.twist.Twist.{Twist}
-use Rattle.calls.specs.Position.{State, step_by, iterate}
-use Rattle.calls.specs.declared.plan.Plan.{Plan}
 use Rattle.calls.proofs.Steps.{run-stops, run-spent, run_on}
-use Rattle.forward_slots.specs.Layout.{results_place}
-use Rattle.forward_visits.specs.Kernel.{visits_by}
-use Rattle.forward_visits.specs.Inputs.{Inputs}
 use borrow.Author.Rules.{rules}
 use Rattle.forward_dynamics.proofs.run.run.Invariants.{}
 use Rattle.forward_dynamics.proofs.run.run.Goals as goal

@@ -1,15 +1,6 @@
-use mathlib.Core.Bool.{true}
-use mathlib.Core.List.{List}
 use mathlib.Core.Path.{refl}
-use Prim.Native.Nat.{ℕ}
 use native.Mathlib.Omega.{arith}
-use lib.Ieee.{Float}
-use Rattle.numbers.specs.declared.quaternion.Quaternion.{Quaternion}
-use Rattle.calls.specs.Position.{State, step_by, iterate}
-use Rattle.calls.specs.declared.plan.Plan.{Plan}
 use Rattle.calls.proofs.Steps.{run-stops, run-spent, run_on}
-use Rattle.composites.specs.Plan.{matrix_place}
-use Rattle.matrix_visits.specs.Kernel.{visits_by}
 use borrow.Author.Rules.{rules}
 use Rattle.mass_matrix.proofs.run.run.Invariants.{}
 use Rattle.mass_matrix.proofs.run.run.Goals as goal

@@ -2,7 +2,6 @@
 use mathlib.Core.Path.{◌≡◌, refl, sym, ◌∙◌}
 use mathlib.Core.Bool.{false≢true}
 use native.Mathlib.Omega.{arith}
-use Rattle.words.specs.Write.{bytes}
 use lib.Seq.{take_all}
 use Rattle.model_lists.proofs.lent.Lists.{bytes_on, bytes-off, bytes-end, copied}
 use borrow.Author.Rules.{rules}

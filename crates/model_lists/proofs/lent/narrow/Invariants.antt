@@ -1,7 +1,6 @@
 use mathlib.Core.Path.{◌≡◌}
 use Prim.Native.Nat.{◌-◌, ◌≤◌}
 use lib.ListN.{length, take, drop}
-use Rattle.words.specs.Write.{bytes}
 use Rattle.model_lists.specs.Lent.{all_bytes}
 use Rattle.model_lists.proofs.lent.narrow.Given as goal
 

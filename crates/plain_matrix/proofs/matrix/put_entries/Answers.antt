@@ -1,14 +1,8 @@
-use mathlib.Core.List.{List}
-use Prim.Native.Nat.{ℕ, zero-le}
+use Prim.Native.Nat.{zero-le}
 use native.Mathlib.Omega.{arith}
-use lib.Ieee.{Float}
 use Rattle.numbers.proofs.Filled.{none, more, full}
-use Rattle.numbers.specs.declared.quaternion.Quaternion.{Quaternion}
-use Rattle.arm.specs.Model.{bundle}
-use Rattle.calls.specs.declared.plan.Plan.{Plan}
 use Rattle.composites.proofs.plan.Squares.{small-square}
-use Rattle.plain_entries.specs.Arm.{arm_of}
-use Rattle.plain_matrix.specs.PlainMatrix.{plain_number, plain_entries}
+use Rattle.plain_matrix.specs.PlainMatrix.{plain_entries}
 use Rattle.plain_matrix.proofs.matrix.put_entries.Invariants.{}
 use Rattle.plain_matrix.proofs.matrix.put_entries.Goals as goal
 

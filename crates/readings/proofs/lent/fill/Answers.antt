@@ -1,10 +1,7 @@
 -- `lent::fill` meets its contract.
 use mathlib.Core.Path.{refl}
-use Prim.Native.Nat.{ℕ}
 use lib.ListN.{length}
-use lib.Ieee.{Float}
 use Rattle.readings.specs.Lent.{ones}
-use Rattle.numbers.specs.Double.{1·0}
 use Rattle.numbers.proofs.Filled.{none, more, full}
 use Prim.Native.Nat.{zero-le}
 use Rattle.readings.proofs.lent.fill.Invariants.{one_at}

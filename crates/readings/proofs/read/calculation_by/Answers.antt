@@ -1,10 +1,6 @@
 -- `read::calculation_by` meets its contract.
 use native.Mathlib.Omega.{arith}
 use Rattle.readings.specs.Read.{calculation_by}
-use Rattle.readings.proofs.read.calculation_by.Reads as reads
-use Rattle.readings.proofs.read.calculation_by.Lts as lts
-use Rattle.readings.proofs.read.rotation.Reads as rotation-reads
-use Rattle.slots.proofs.twist_at.Reads as twist-at-reads
 use Rattle.readings.proofs.read.calculation_by.Goals as goal
 
 pub mode_by-requires : goal.mode_by-requires

@@ -1,8 +1,5 @@
 -- `read::kind_of` meets its contract.
 use Rattle.readings.specs.Read.{kind_named}
-use Rattle.readings.proofs.read.kind_of.Reads as reads
-use Rattle.readings.proofs.read.kind_of.Lts as lts
-use Rattle.words.proofs.read.same.Reads as same_Reads
 use Rattle.readings.proofs.read.kind_of.Goals as goal
 
 pub returns-then-same : goal.returns-then-same

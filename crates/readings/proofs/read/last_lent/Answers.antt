@@ -3,11 +3,6 @@ use mathlib.Core.Path.{sym, ◌∙◌}
 use borrow.Author.Tests.{lt-ltb, le-ltb}
 use Rattle.words.specs.Read.{end}
 use Rattle.readings.specs.Read.{lengths}
-use Rattle.readings.proofs.read.last_lent.Reads as reads
-use Rattle.readings.proofs.read.last_lent.Lts as lts
-use Rattle.words.proofs.list.numbers.Reads as numbers-reads
-use Rattle.words.proofs.read.at_end.Reads as at-end-reads
-use Rattle.words.proofs.read.next_number.Reads as next-number-reads
 use borrow.Author.Rules.{rules}
 use Rattle.readings.proofs.read.last_lent.Goals as goal
 

@@ -4,11 +4,6 @@ use lib.Seq.{length-take-le}
 use lib.Ieee.{binary64, of_bits}
 use Rattle.readings.specs.Read.{calculation}
 use Rattle.readings.proofs.read.Laws.{enough}
-use Rattle.readings.proofs.read.next_calculation.Reads as reads
-use Rattle.readings.proofs.read.next_calculation.Lts as lts
-use Rattle.readings.proofs.read.calculation_by.Reads as calculation-by-reads
-use Rattle.readings.proofs.read.root_numbers.Reads as root-numbers-reads
-use Rattle.words.proofs.list.fill_doubles.Reads as fill-doubles-reads
 use Rattle.readings.proofs.read.next_calculation.Goals as goal
 
 pub fill_doubles-requires : goal.fill_doubles-requires

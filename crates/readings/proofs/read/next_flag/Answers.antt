@@ -1,9 +1,6 @@
 -- `read::next_flag` meets its contract.
 use borrow.Author.Tests.{lt-ltb, le-ltb}
 use Rattle.readings.specs.Read.{flag}
-use Rattle.readings.proofs.read.next_flag.Reads as reads
-use Rattle.readings.proofs.read.next_flag.Lts as lts
-use Rattle.words.proofs.read.next_number.Reads as next-number-reads
 use Rattle.readings.proofs.read.next_flag.Goals as goal
 
 pub returns-in_default : goal.returns-in_default

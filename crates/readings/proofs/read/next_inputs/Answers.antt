@@ -1,9 +1,5 @@
 -- `read::next_inputs` meets its contract.
 use Rattle.readings.specs.Read.{inputs}
-use Rattle.readings.proofs.read.next_inputs.Reads as reads
-use Rattle.readings.proofs.read.next_inputs.Lts as lts
-use Rattle.readings.proofs.read.next_rest.Reads as next-rest-reads
-use Rattle.words.proofs.list.doubles.Reads as doubles-reads
 use borrow.Author.Rules.{rules}
 use Rattle.readings.proofs.read.next_inputs.Goals as goal
 

@@ -1,10 +1,6 @@
 -- `read::next_kind` meets its contract.
 use mathlib.Core.Path.{sym, ◌∙◌}
 use Rattle.readings.proofs.read.Laws.{kind-is}
-use Rattle.readings.proofs.read.next_kind.Reads as reads
-use Rattle.readings.proofs.read.next_kind.Lts as lts
-use Rattle.readings.proofs.read.kind_of.Reads as kind-of-reads
-use Rattle.words.proofs.read.next_word.Reads as next-word-reads
 use borrow.Author.Rules.{rules}
 use Rattle.readings.proofs.read.next_kind.Goals as goal
 

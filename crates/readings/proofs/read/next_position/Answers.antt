@@ -1,9 +1,5 @@
 -- `read::next_position` meets its contract.
 use Rattle.readings.specs.Read.{position}
-use Rattle.readings.proofs.read.next_position.Reads as reads
-use Rattle.readings.proofs.read.next_position.Lts as lts
-use Rattle.readings.proofs.read.next_flag.Reads as next-flag-reads
-use Rattle.words.proofs.read.next_number.Reads as next-number-reads
 use Rattle.readings.proofs.read.next_position.Goals as goal
 
 pub returns-in_default : goal.returns-in_default

@@ -1,9 +1,5 @@
 -- `read::next_rest` meets its contract.
 use Rattle.readings.specs.Read.{rest}
-use Rattle.readings.proofs.read.next_rest.Reads as reads
-use Rattle.readings.proofs.read.next_rest.Lts as lts
-use Rattle.words.proofs.list.doubles.Reads as doubles-reads
-use Rattle.words.proofs.list.numbers.Reads as numbers-reads
 use Rattle.readings.proofs.read.next_rest.Goals as goal
 
 pub returns-in_default : goal.returns-in_default

@@ -1,10 +1,6 @@
 -- `answer::name_of` meets its contract. Each way out is its case of `name_of`.
 use mathlib.Core.Path.{sym, ◌∙◌}
 use Rattle.requests.specs.Answer.{name_of}
-use Rattle.requests.proofs.answer.name_of.Reads as reads
-use Rattle.requests.proofs.answer.name_of.Lts as lts
-use Rattle.readings.proofs.read.kind_of.Reads as kind-of-reads
-use Rattle.words.proofs.read.same.Reads as same_Reads
 use Rattle.requests.proofs.answer.name_of.Goals as goal
 
 pub returns-then-same : goal.returns-then-same

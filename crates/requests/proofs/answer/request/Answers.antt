@@ -8,19 +8,6 @@ use Rattle.plain_requests.specs.Request.{plain_request}
 use Rattle.standing_requests.specs.Request.{stands_request}
 use Rattle.routine_requests.specs.Routines.{root_request, half_turn_request}
 use Rattle.requests.proofs.answer.Laws.{request-is, kept}
-use Rattle.requests.proofs.answer.request.Reads as reads
-use Rattle.requests.proofs.answer.request.Lts as lts
-use Rattle.writings.proofs.column.column.Reads as column-reads
-use Rattle.calculation_requests.proofs.request.calculate.Reads as calculate-reads
-use Rattle.calculation_requests.proofs.request.repeat.Reads as repeat-reads
-use Rattle.calculation_requests.proofs.request.resume.Reads as resume-reads
-use Rattle.replies.proofs.error.Reads as error-reads
-use Rattle.requests.proofs.answer.name_of.Reads as name-of-reads
-use Rattle.model_requests.proofs.lend.lend.Reads as lend-reads
-use Rattle.model_requests.proofs.model.model.Reads as model-reads
-use Rattle.routine_requests.proofs.routines.half_turn.Reads as half-turn-reads
-use Rattle.routine_requests.proofs.routines.root.Reads as root-reads
-use Rattle.words.proofs.read.next_word.Reads as next-word-reads
 use Rattle.requests.proofs.answer.request.Goals as goal
 
 pub returns-in-Model : goal.returns-in-Model

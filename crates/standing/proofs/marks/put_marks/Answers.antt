@@ -1,12 +1,9 @@
-use mathlib.Core.Bool.{Bool}
-use mathlib.Core.List.{List}
-use Prim.Native.Nat.{ℕ, zero-le}
+use Prim.Native.Nat.{zero-le}
 use native.Mathlib.Omega.{arith}
 use Rattle.numbers.proofs.Filled.{none, more, full}
-use Rattle.calls.specs.declared.plan.Plan.{Plan}
 use Rattle.composites.proofs.plan.Squares.{small-square}
 use Rattle.plain_matrix.proofs.Listed.{in-square}
-use Rattle.standing.specs.Standing.{mark_number, marks_of, stands_by}
+use Rattle.standing.specs.Standing.{marks_of}
 use Rattle.standing.proofs.marks.put_marks.Invariants.{}
 use Rattle.standing.proofs.marks.put_marks.Goals as goal
 

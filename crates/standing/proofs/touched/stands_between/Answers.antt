@@ -1,6 +1,6 @@
 use mathlib.Core.Bool.{Bool, ◌||◌}
 use mathlib.Core.Path.{sym, ap, ◌∙◌}
-use Prim.Native.Nat.{ℕ, ◌+◌}
+use Prim.Native.Nat.{ℕ}
 use native.Mathlib.Numerals.{add-one}
 use Rattle.standing.specs.Standing.{another, own_touched, stands_up, stands_by}
 use Rattle.standing.proofs.Flags.{first}

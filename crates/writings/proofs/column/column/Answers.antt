@@ -4,13 +4,6 @@ use native.Mathlib.Omega.{arith}
 use lib.Seq.{length-take-le}
 use Rattle.words.specs.Read.{end}
 use Rattle.writings.specs.Column.{column_request}
-use Rattle.writings.proofs.column.column.Reads as reads
-use Rattle.writings.proofs.column.column.Lts as lts
-use Rattle.writings.proofs.column.put_column.Reads as put-column-reads
-use Rattle.replies.proofs.error.Reads as error-reads
-use Rattle.words.proofs.list.doubles.Reads as doubles-reads
-use Rattle.words.proofs.read.at_end.Reads as at-end-reads
-use Rattle.words.proofs.read.next_number.Reads as next-number-reads
 use Rattle.writings.proofs.column.column.Goals as goal
 
 pub returns-in_default : goal.returns-in_default

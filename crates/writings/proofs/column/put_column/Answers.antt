@@ -6,11 +6,6 @@ use lib.ListN.{length, take}
 use Rattle.words.proofs.write.Laws.{written}
 use Rattle.words.specs.Write.{bytes, double_text, list_text}
 use Rattle.writings.proofs.column.Laws.{column-short}
-use Rattle.writings.proofs.column.put_column.Reads as reads
-use Rattle.writings.proofs.column.put_column.Lts as lts
-use Rattle.mass_matrix.proofs.column.column.Reads as column-reads
-use Rattle.words.proofs.write.put.Reads as put_reads
-use Rattle.words.proofs.write.put_doubles.Reads as put-doubles-reads
 use Rattle.writings.proofs.column.put_column.Goals as goal
 
 pub put_doubles-b-requires : goal.put_doubles-b-requires

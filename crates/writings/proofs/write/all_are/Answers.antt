@@ -6,8 +6,6 @@ use lib.Ieee.{is_nan}
 use Rattle.words.proofs.write.Round.{no_nan}
 use lib.Ieee.Compare.{differs_from_itself}
 use Rattle.writings.proofs.write.Laws.{are-nan, are-off, are-on, are-end}
-use Rattle.writings.proofs.write.all_are.Reads as reads
-use Rattle.writings.proofs.write.all_are.Lts as lts
 use borrow.Author.Rules.{rules}
 use Rattle.writings.proofs.write.all_are.Goals as goal
 

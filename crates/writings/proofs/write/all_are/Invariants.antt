@@ -2,8 +2,6 @@ use mathlib.Core.Path.{◌≡◌}
 use Prim.Native.Nat.{◌-◌, ◌≤◌}
 use lib.ListN.{length, drop}
 use Rattle.writings.specs.Write.{all_are}
-use Rattle.writings.proofs.write.all_are.Reads as reads
-use Rattle.writings.proofs.write.all_are.Lts as lts
 use Rattle.writings.proofs.write.all_are.Given as goal
 
 abbrev pub invariant-loop-i : goal.invariant-loop-i

@@ -6,11 +6,6 @@ use lib.ListN.{take}
 use Rattle.words.proofs.write.Laws.{written}
 use Rattle.words.specs.Write.{bytes, double_text, list_text}
 use Rattle.writings.specs.Write.{workspace_text}
-use Rattle.writings.proofs.write.put_back.Reads as reads
-use Rattle.writings.proofs.write.put_back.Lts as lts
-use Rattle.writings.proofs.write.put_workspace.Reads as put-workspace-reads
-use Rattle.words.proofs.write.put.Reads as put_reads
-use Rattle.words.proofs.write.put_doubles.Reads as put-doubles-reads
 use Rattle.writings.proofs.write.put_back.Goals as goal
 
 pub returns : goal.returns

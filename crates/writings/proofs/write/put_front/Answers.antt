@@ -6,11 +6,6 @@ use lib.ListN.{take}
 use Rattle.words.proofs.write.Laws.{written}
 use Rattle.words.specs.Write.{bytes, hex_text, list_text}
 use Rattle.writings.specs.Write.{outcome_text}
-use Rattle.writings.proofs.write.put_front.Reads as reads
-use Rattle.writings.proofs.write.put_front.Lts as lts
-use Rattle.writings.proofs.write.put_outcome.Reads as put-outcome-reads
-use Rattle.words.proofs.write.put.Reads as put_reads
-use Rattle.words.proofs.write.put_numbers.Reads as put-numbers-reads
 use Rattle.writings.proofs.write.put_front.Goals as goal
 
 pub returns : goal.returns

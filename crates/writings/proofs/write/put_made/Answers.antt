@@ -4,10 +4,6 @@ use native.Mathlib.Omega.{arith}
 use lib.ListN.{take}
 use Rattle.writings.specs.Write.{front_text, back_text}
 use mathlib.Core.List.{append_assoc}
-use Rattle.writings.proofs.write.put_made.Reads as reads
-use Rattle.writings.proofs.write.put_made.Lts as lts
-use Rattle.writings.proofs.write.put_back.Reads as put-back-reads
-use Rattle.writings.proofs.write.put_front.Reads as put-front-reads
 use Rattle.writings.proofs.write.put_made.Goals as goal
 
 pub returns : goal.returns

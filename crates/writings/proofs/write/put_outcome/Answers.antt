@@ -1,8 +1,4 @@
 -- `write::put_outcome` meets its contract.
-use Rattle.writings.proofs.write.put_outcome.Reads as reads
-use Rattle.writings.proofs.write.put_outcome.Lts as lts
-use Rattle.replies.proofs.put_refused.Reads as put-refused-reads
-use Rattle.words.proofs.write.put.Reads as put_reads
 use borrow.Author.Rules.{rules}
 use Rattle.writings.proofs.write.put_outcome.Goals as goal
 

@@ -1,9 +1,5 @@
 -- `write::put_workspace` meets its contract.
 use Rattle.writings.specs.Write.{workspace_text}
-use Rattle.writings.proofs.write.put_workspace.Reads as reads
-use Rattle.writings.proofs.write.put_workspace.Lts as lts
-use Rattle.writings.proofs.write.all_are.Reads as all-are-reads
-use Rattle.words.proofs.write.put.Reads as put_reads
 use borrow.Author.Rules.{rules}
 use Rattle.writings.proofs.write.put_workspace.Goals as goal
 
