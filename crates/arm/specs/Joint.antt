@@ -1,10 +1,9 @@
 -- A joint's motion, the rule of its origin's rotation, and its frame (document 01, "Model" and "Number rules"); its rotor (document 02, item 11). Definitions only.
-use Rattle.std.specs.Prelude.{Bool, cond, List, [], ◌∷◌, ◌≡◌, ℕ, eqb, Float}
+use Rattle.std.specs.Prelude.{Bool, cond, Option, Some, None, List, [], ◌∷◌, ◌≡◌, ℕ, eqb, Float}
 use Rattle.std.specs.Float.Ieee.{lt, ne}
 use Rattle.numbers.specs.Double.{◌⊕◌, ◌⊖◌, ◌⊗◌, bits, 0·0, 1·0, abs_of}
 use Rattle.half_turn.specs.HalfTurn.{half_turn_of}
-use Rattle.half_turn.specs.declared.HalfTurn.{HalfTurn}
-use Rattle.half_turn.specs.declared.HalfTurn.TheVariants.{Of, OutOfRange}
+use Rattle.half_turn.specs.declared.SinCos.{SinCos}
 use Rattle.numbers.specs.declared.quaternion.Quaternion.{Quaternion}
 use Rattle.numbers.specs.declared.vec3.Vec3.{Vec3}
 use Rattle.spatial.specs.Frame.{turn_of, slide_of}
@@ -53,9 +52,9 @@ not_unit q = lt slack (abs_of (q.w ⊗ q.w ⊕ q.u.x ⊗ q.u.x ⊕ q.u.y ⊗ q.u
 -- ---- the frame
 
 -- out of range, which a call refuses beforehand, the origin
-unfoldable pub turned_of : Frame → Vec3 → HalfTurn → Frame
-turned_of origin axis (Of v) = turn_of origin axis v
-turned_of origin axis OutOfRange = origin
+unfoldable pub turned_of : Frame → Vec3 → Option SinCos → Frame
+turned_of origin axis (Some v) = turn_of origin axis v
+turned_of origin axis None = origin
 
 -- the joint's frame in its parent link, at the value q
 unfoldable pub frame_of : Frame → Motion → Float → Frame

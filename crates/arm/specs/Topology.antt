@@ -1,10 +1,9 @@
 -- Active numbers: the joints that are not fixed, in joint order (document 01, "Model"). Definitions only.
-use Rattle.std.specs.Prelude.{Bool, not, cond, ◌&&◌, List, ◌≡◌, ℕ, zero, suc, ◌+◌, ◌<◌, eqb, get_or, Float}
+use Rattle.std.specs.Prelude.{Bool, not, cond, ◌&&◌, Option, List, ◌≡◌, ℕ, zero, suc, ◌+◌, ◌<◌, eqb, get_or, Float}
 use Rattle.std.specs.Float.{nan}
 use Rattle.numbers.specs.Double.{0·0}
 use Rattle.numbers.specs.Table.{tab}
 use Rattle.refusals.specs.Refusals.{lowest}
-use Rattle.refusals.specs.declared.Place.{Place}
 use Rattle.spatial.specs.declared.frame.Frame.{Frame}
 use Rattle.arm.specs.Joint.{is_fixed, frame_of}
 use Rattle.arm.specs.Model.{kind_of, joint_of}
@@ -34,7 +33,7 @@ unfoldable pub holds_of : List ℕ → ℕ → ℕ → Bool
 holds_of kinds k j = not (is_fixed (kind_of kinds j)) && eqb (actives_of kinds j) k
 
 -- the joint of active number k, among the first n
-unfoldable pub active_joint : List ℕ → ℕ → ℕ → Place
+unfoldable pub active_joint : List ℕ → ℕ → ℕ → Option ℕ
 active_joint kinds n k = lowest (holds_of kinds k) n
 
 -- joint j is one of the first n, is active, and has active number k

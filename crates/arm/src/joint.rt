@@ -3,7 +3,6 @@ ghost use Rattle.std.specs.Prelude.{◌≡◌};
 ghost use Rattle.half_turn.specs.HalfTurn.{half_turn_of};
 ghost use Rattle.arm.specs.Joint.{not_unit, turned_of, frame_of, with_rotor};
 
-use half_turn::HalfTurn;
 use numbers::double;
 use numbers::quaternion::Quaternion;
 use numbers::vec3::Vec3;
@@ -24,6 +23,7 @@ pub struct Joint {
 }
 
 // Whether the square of a rotation's length differs from 1 by more than 2^-40.
+#[tactic(auto, unfolding(crate::specs::Joint::not_unit))]
 pub fn not_unit(q: Quaternion) -> bool
     ensures { result ≡ not_unit q }
 {
@@ -32,17 +32,18 @@ pub fn not_unit(q: Quaternion) -> bool
 }
 
 // A turn by q; out of range, which a call refuses beforehand, the origin.
+#[tactic(auto, unfolding(crate::specs::Joint::turned_of))]
 fn turned(origin: Frame, axis: Vec3, q: f64) -> Frame
     ensures { result ≡ turned_of origin axis (half_turn_of q) }
 {
-    let half = half_turn::half_turn(q);
-    match half {
-        HalfTurn::Of(v) => origin.turn(axis, v),
-        HalfTurn::OutOfRange => origin,
+    match half_turn::half_turn(q) {
+        Some(v) => origin.turn(axis, v),
+        None => origin,
     }
 }
 
 // The joint's frame in its parent link, at the value q.
+#[tactic(auto, unfolding(crate::specs::Joint::frame_of))]
 pub fn frame(origin: Frame, motion: Motion, q: f64) -> Frame
     ensures { result ≡ frame_of origin motion q }
 {
@@ -54,6 +55,7 @@ pub fn frame(origin: Frame, motion: Motion, q: f64) -> Frame
 }
 
 // The rotor added to a dot product. A zero is not: +0.0 would make -0.0 another number.
+#[tactic(auto, unfolding(crate::specs::Joint::with_rotor))]
 pub fn with_rotor(rotor: f64, x: f64) -> f64
     ensures { result ≡ with_rotor rotor x }
 {

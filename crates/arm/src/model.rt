@@ -28,6 +28,7 @@ pub struct Link {
     pub inertia: Mat3,
 }
 
+#[tactic(auto, unfolding(crate::specs::Model::empty_model))]
 pub fn empty() -> Model
     ensures { result ≡ empty_model }
 {
@@ -46,22 +47,20 @@ pub fn parent_at(n: usize, parents: &[u8; 32], j: usize) -> usize
     requires { Tree n parents.now × (j < n) }
     ensures { (result ≡ parent_of parents.now j) × (result ≤ j) }
 {
-    parents[j] as usize
+    usize::from(parents[j])
 }
 
+#[tactic(auto, unfolding(crate::specs::Model::motion_of, crate::specs::Joint::motion_by))]
 pub fn motion_at<'a>(kinds: &'a [u8; 32], axes: &'a [f64; 96], j: usize) -> Motion
     requires { j < 32 }
     ensures { result ≡ motion_of kinds.now axes.now j }
 {
-    let kind = kinds[j];
     let axis = slots::vec3_at(axes, j * 3);
-    if kind == 0 {
-        return Motion::Turn(axis);
+    match kinds[j] {
+        0 => Motion::Turn(axis),
+        1 => Motion::Slide(axis),
+        _ => Motion::Fixed,
     }
-    if kind == 1 {
-        return Motion::Slide(axis);
-    }
-    Motion::Fixed
 }
 
 pub fn joint_at<'a>(
@@ -75,68 +74,51 @@ pub fn joint_at<'a>(
     requires { Good n parents.now kinds.now × (j < n) }
     ensures { (result ≡ joint_of parents.now kinds.now origins.now axes.now j) × (result.parent ≤ j) × MotionIs (kind_of kinds.now j) (vec3_at axes.now (j * 3)) result.motion }
 {
-    let parent = parent_at(n, parents, j);
-    let motion = motion_at(kinds, axes, j);
-    let origin = slots::frame_at(origins, j * 7);
     Joint {
-        parent,
-        motion,
-        origin,
+        parent: parent_at(n, parents, j),
+        motion: motion_at(kinds, axes, j),
+        origin: slots::frame_at(origins, j * 7),
     }
 }
 
+#[tactic(auto, unfolding(crate::specs::Model::link_of))]
 pub fn link_at(links: &[f64; 330], l: usize) -> Link
     requires { l < 33 }
     ensures { result ≡ link_of links.now l }
 {
     let at = l * 10;
-    let mass = links[at];
-    let moment = slots::vec3_at(links, at + 1);
     let a = slots::vec3_at(links, at + 4);
     let b = slots::vec3_at(links, at + 7);
-    let inertia = Mat3 {
-        r0: a,
-        r1: Vec3 {
-            x: a.y,
-            y: b.x,
-            z: b.y,
-        },
-        r2: Vec3 {
-            x: a.z,
-            y: b.y,
-            z: b.z,
-        },
-    };
     Link {
-        mass,
-        moment,
-        inertia,
+        mass: links[at],
+        moment: slots::vec3_at(links, at + 1),
+        inertia: Mat3 {
+            r0: a,
+            r1: Vec3 {
+                x: a.y,
+                y: b.x,
+                z: b.y,
+            },
+            r2: Vec3 {
+                x: a.z,
+                y: b.y,
+                z: b.z,
+            },
+        },
     }
 }
 
+#[tactic(auto, unfolding(crate::specs::Model::wild_joint))]
 fn wild_joint<'a>(parents: &'a [u8; 32], kinds: &'a [u8; 32], j: usize) -> bool
     requires { j < 32 }
     ensures { result ≡ wild_joint parents.now kinds.now j }
 {
-    if (j as u8) < parents[j] {
-        return true;
-    }
-    2 < kinds[j]
+    j < usize::from(parents[j]) || 2 < kinds[j]
 }
 
 // Refusal 9's test: whether a lent model has cause 1, 3 or 4.
 pub fn wild<'a>(n: usize, parents: &'a [u8; 32], kinds: &'a [u8; 32]) -> bool
     ensures { (result ≡ wild_of n parents.now kinds.now) × (result ≡ false → Good n parents.now kinds.now) }
 {
-    if 32 < n {
-        return true;
-    }
-    let mut j: usize = 0;
-    while j < n {
-        if wild_joint(parents, kinds, j) {
-            return true;
-        }
-        j += 1;
-    }
-    false
+    32 < n || (0..n).any(|j| wild_joint(parents, kinds, j))
 }

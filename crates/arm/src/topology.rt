@@ -7,22 +7,20 @@ ghost use Rattle.arm.specs.Topology.{joint_frame, actives_of, active_numbers, va
 
 use crate::joint::Motion;
 use crate::{joint, model};
-use refusals::Place;
 use spatial::frame::Frame;
 
 // How many joints below each joint number are active: worked out once for a call.
+#[tactic(auto, using(crate::proofs::topology::Counts::bounds))]
 pub fn active_numbers(kinds: &[u8; 32]) -> [u8; 33]
     ensures { result ≡ active_numbers kinds.now }
 {
     let mut numbers: [u8; 33] = [0; 33];
     let mut a: u8 = 0;
-    let mut j: usize = 0;
-    while j < 32 {
+    for j in 0..32 {
         numbers[j] = a;
         if kinds[j] != 2 {
             a += 1;
         }
-        j += 1;
     }
     numbers[32] = a;
     numbers
@@ -32,10 +30,11 @@ pub fn number_at<'a>(kinds: &'a [u8; 32], numbers: &'a [u8; 33], j: usize) -> us
     requires { (numbers.now ≡ active_numbers kinds.now) × (j ≤ 32) }
     ensures { result ≡ actives_of kinds.now j }
 {
-    numbers[j] as usize
+    usize::from(numbers[j])
 }
 
 // An active joint's own number of q.
+#[tactic(auto, using(crate::proofs::topology::Counts::bounds))]
 fn own_value<'a>(
     kinds: &'a [u8; 32],
     numbers: &'a [u8; 33],
@@ -46,11 +45,11 @@ fn own_value<'a>(
     requires { (numbers.now ≡ active_numbers kinds.now) × (n ≤ 32) × (j < n) × (length q.now ≡ actives_of kinds.now n) × (kind_of kinds.now j ≡ 2 → ⊥) }
     ensures { result ≡ get_or q.now (actives_of kinds.now j) nan }
 {
-    let i = number_at(kinds, numbers, j);
-    q[i]
+    q[number_at(kinds, numbers, j)]
 }
 
 // Joint j's own number of q, or +0.0 for a fixed joint: for the checks, which are lent no axes.
+#[tactic(auto, unfolding(crate::specs::Topology::value_of))]
 pub fn value_at<'a>(
     kinds: &'a [u8; 32],
     numbers: &'a [u8; 33],
@@ -61,14 +60,14 @@ pub fn value_at<'a>(
     requires { (numbers.now ≡ active_numbers kinds.now) × (n ≤ 32) × (j < n) × (length q.now ≡ actives_of kinds.now n) }
     ensures { result ≡ value_of kinds.now q.now j }
 {
-    let kind = kinds[j];
-    if kind == 2 {
+    if kinds[j] == 2 {
         return 0.0;
     }
     own_value(kinds, numbers, q, n, j)
 }
 
 // The same for a visit, which has the joint's motion.
+#[tactic(auto, unfolding(crate::specs::Topology::value_of))]
 pub fn value_of<'a>(
     motion: Motion,
     kinds: &'a [u8; 32],
@@ -81,8 +80,7 @@ pub fn value_of<'a>(
     ensures { result ≡ value_of kinds.now q.now j }
 {
     match motion {
-        Motion::Turn(_) => own_value(kinds, numbers, q, n, j),
-        Motion::Slide(_) => own_value(kinds, numbers, q, n, j),
+        Motion::Turn(_) | Motion::Slide(_) => own_value(kinds, numbers, q, n, j),
         Motion::Fixed => 0.0,
     }
 }
@@ -102,36 +100,28 @@ pub fn frame_at<'a>(
     ensures { result ≡ joint_frame parents.now kinds.now origins.now axes.now q.now j }
 {
     let joint = model::joint_at(n, parents, kinds, origins, axes, j);
-    let origin = joint.origin;
-    let motion = joint.motion;
-    let value = value_of(motion, kinds, numbers, q, n, j);
-    joint::frame(origin, motion, value)
+    let value = value_of(joint.motion, kinds, numbers, q, n, j);
+    joint::frame(joint.origin, joint.motion, value)
 }
 
 // Joint j is active and has active number k.
+#[tactic(auto, unfolding(crate::specs::Topology::holds_of))]
 fn holds_at<'a>(kinds: &'a [u8; 32], numbers: &'a [u8; 33], j: usize, k: usize) -> bool
     requires { (numbers.now ≡ active_numbers kinds.now) × (j < 32) }
     ensures { result ≡ holds_of kinds.now k j }
 {
-    let kind = kinds[j];
-    if kind == 2 {
-        return false;
-    }
-    let a = number_at(kinds, numbers, j);
-    a == k
+    kinds[j] != 2 && number_at(kinds, numbers, j) == k
 }
 
 // The joint of active number k. An active number is at most its joint's own, so the search begins at k.
-pub fn active_joint<'a>(kinds: &'a [u8; 32], numbers: &'a [u8; 33], n: usize, k: usize) -> Place
+pub fn active_joint<'a>(
+    kinds: &'a [u8; 32],
+    numbers: &'a [u8; 33],
+    n: usize,
+    k: usize,
+) -> Option<usize>
     requires { (numbers.now ≡ active_numbers kinds.now) × (n ≤ 32) × (k ≤ n) }
     ensures { result ≡ active_joint kinds.now n k }
 {
-    let mut i = k;
-    while i < n {
-        if holds_at(kinds, numbers, i, k) {
-            return Place::At(i);
-        }
-        i += 1;
-    }
-    Place::Nothing
+    (k..n).find(|i| holds_at(kinds, numbers, *i, k))
 }

@@ -1,13 +1,13 @@
 -- The root: its velocity, gravity there, and a floating base's acceleration (`forward_dynamics.rs`). Definitions only.
-use Rattle.std.specs.Prelude.{cond, List, ℕ, eqb, Float}
+use Rattle.std.specs.Prelude.{cond, List, ℕ, eqb, Float, None, Result, Ok, Err}
 use Rattle.numbers.specs.Double.{bits, 0·0}
 use Rattle.numbers.specs.Vec3.{vec_by, plus_of, minus_of, cross_of}
 use Rattle.numbers.specs.Quaternion.{inverse_of, rotate_of}
 use Rattle.numbers.specs.declared.vec3.Vec3.{Vec3}
 use Rattle.numbers.specs.declared.quaternion.Quaternion.{Quaternion}
-use Rattle.refusals.specs.declared.Place.TheVariants.{Nothing}
-use Rattle.refusals.specs.declared.Verdict.TheVariants.{Fine, Refused}
-use Rattle.spatial.specs.Twist.{zeros_of, rotated_of, finite_of}
+use Rattle.refusals.specs.Refusals.{refusal}
+use Rattle.refusals.specs.declared.Refusal.{Refusal}
+use Rattle.spatial.specs.Twist.{rotated_of, finite_of}
 use Rattle.spatial.specs.Wrench.{vector_of, minus_of as wrench_minus, rotated_of as wrench_rotated}
 use Rattle.spatial.specs.declared.twist.Twist.{Twist}
 use Rattle.spatial.specs.declared.wrench.Wrench.{Wrench}
@@ -39,18 +39,18 @@ unfoldable pub world_acceleration : Quaternion → Twist → Twist → Twist
 world_acceleration rotation velocity a =
     rotated_of (record { angular = a.angular; linear = plus_of (minus_of a.linear (gravity_local rotation)) (cross_of velocity.angular velocity.linear) }) rotation
 
-unfoldable pub refused_base : ℕ → Base
-refused_base number = record { verdict = Refused number Nothing; acceleration = zeros_of; world = zeros_of }
+unfoldable pub refused_base : ℕ → Result Base Refusal
+refused_base number = Err (refusal number None)
 
 -- 35: floating base acceleration not finite
-unfoldable pub judged_base : Quaternion → Twist → Twist → Base
+unfoldable pub judged_base : Quaternion → Twist → Twist → Result Base Refusal
 judged_base rotation velocity a =
     let world = world_acceleration rotation velocity a in
-    cond (finite_of world) (record { verdict = Fine; acceleration = a; world = world }) (refused_base 35)
+    cond (finite_of world) (Ok (record { acceleration = a; world = world })) (refused_base 35)
 
 -- what the base solve refuses by 32, 33 or 34 is refused
-unfoldable pub solved_base : Quaternion → Twist → ℕ × Twist → Base
+unfoldable pub solved_base : Quaternion → Twist → ℕ × Twist → Result Base Refusal
 solved_base rotation velocity s = cond (eqb s.0 0) (judged_base rotation velocity s.1) (refused_base s.0)
 
-unfoldable pub base_of : Quaternion → Twist → List Float → Wrench → Wrench → Base
+unfoldable pub base_of : Quaternion → Twist → List Float → Wrench → Wrench → Result Base Refusal
 base_of rotation velocity inertia bias force = solved_base rotation velocity (base_solve (average_of inertia) (vector_of (right_side rotation force bias)))

@@ -1,10 +1,8 @@
 -- Second pass: an active joint's terms and their tests, and the force that goes to the parent (`forward_dynamics.rs`; document 02, item 11). Definitions only.
-use Rattle.std.specs.Prelude.{cond, List, ℕ, Float}
+use Rattle.std.specs.Prelude.{cond, List, ℕ, Float, Some}
 use Rattle.std.specs.Float.Ieee.{le}
 use Rattle.numbers.specs.Double.{◌⊖◌, ◌⊘◌, 0·0, finite}
-use Rattle.refusals.specs.declared.Place.TheVariants.{At}
-use Rattle.refusals.specs.declared.Verdict.{Verdict}
-use Rattle.refusals.specs.declared.Verdict.TheVariants.{Fine, Refused}
+use Rattle.refusals.specs.Refusals.{Verdict, fine, refused}
 use Rattle.spatial.specs.Operators.{motion_force_dot}
 use Rattle.spatial.specs.Wrench.{plus_of, scale_of}
 use Rattle.spatial.specs.declared.twist.Twist.{Twist}
@@ -23,7 +21,7 @@ term_of motion rotor inertia force own =
 
 -- 30: D not finite; 31: D finite and ≤ 0; both name the active number
 unfoldable pub judged_term : Float → ℕ → Verdict
-judged_term d number = cond (finite d) (cond (le d 0·0) (Refused 31 (At number)) Fine) (Refused 30 (At number))
+judged_term d number = cond (finite d) (cond (le d 0·0) (refused 31 (Some number)) fine) (refused 30 (Some number))
 
 unfoldable pub carried_force : List Float → Wrench → Twist → Wrench
 carried_force inertia force bias = plus_of force (inertia_apply inertia bias)

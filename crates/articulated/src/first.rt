@@ -17,6 +17,7 @@ pub struct First {
     pub force: Wrench,
 }
 
+#[tactic(auto, unfolding(crate::specs::First::body_inertia))]
 pub fn body_inertia(link: Link) -> [f64; 36]
     ensures { result ≡ body_inertia link }
 {
@@ -24,6 +25,7 @@ pub fn body_inertia(link: Link) -> [f64; 36]
 }
 
 // The force that a body's own motion asks for, and its load.
+#[tactic(auto, unfolding(crate::specs::First::bias_force))]
 pub fn bias_force(inertia: &[f64; 36], velocity: Twist, load: Wrench) -> Wrench
     ensures { result ≡ bias_force inertia.now velocity load }
 {
@@ -32,6 +34,7 @@ pub fn bias_force(inertia: &[f64; 36], velocity: Twist, load: Wrench) -> Wrench
 }
 
 // A joint with this frame, at speed qd, whose parent link moves with `parent`.
+#[tactic(auto, unfolding(crate::specs::First::first_of))]
 pub fn first_pass(
     frame: Frame,
     motion: Motion,

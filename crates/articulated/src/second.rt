@@ -5,7 +5,7 @@ ghost use Rattle.articulated.specs.Second.{term_of, judged_term, carried_force, 
 use arm::joint;
 use arm::joint::Motion;
 use numbers::double;
-use refusals::{Place, Verdict};
+use refusals::Refusal;
 use spatial::operators;
 use spatial::twist::Twist;
 use spatial::wrench::Wrench;
@@ -18,6 +18,7 @@ pub struct Term {
     pub bias: f64,
 }
 
+#[tactic(auto, unfolding(crate::specs::Second::term_of))]
 pub fn joint_term(motion: Motion, rotor: f64, inertia: &[f64; 36], force: Wrench, own: f64) -> Term
     ensures { result ≡ term_of motion rotor inertia.now force own }
 {
@@ -29,19 +30,21 @@ pub fn joint_term(motion: Motion, rotor: f64, inertia: &[f64; 36], force: Wrench
 }
 
 // 30 and 31, naming the active number.
-pub fn judged_term(d: f64, number: usize) -> Verdict
+#[tactic(auto, unfolding(crate::specs::Second::judged_term))]
+pub fn judged_term(d: f64, number: usize) -> Result<(), Refusal>
     ensures { result ≡ judged_term d number }
 {
-    if double::is_finite(d) {
-        if d <= 0.0 {
-            return Verdict::Refused(31, Place::At(number));
-        }
-        return Verdict::Fine;
+    if !double::is_finite(d) {
+        return Err(Refusal::at(30, number));
     }
-    Verdict::Refused(30, Place::At(number))
+    if d <= 0.0 {
+        return Err(Refusal::at(31, number));
+    }
+    Ok(())
 }
 
 // The force that an inertia hands on, with its velocity bias.
+#[tactic(auto, unfolding(crate::specs::Second::carried_force))]
 pub fn carried_force(inertia: &[f64; 36], force: Wrench, bias: Twist) -> Wrench
     ensures { result ≡ carried_force inertia.now force bias }
 {
@@ -49,10 +52,10 @@ pub fn carried_force(inertia: &[f64; 36], force: Wrench, bias: Twist) -> Wrench
 }
 
 // The same of an active joint, whose inertia is reduced already.
+#[tactic(auto, unfolding(crate::specs::Second::reduced_force))]
 pub fn reduced_force(reduced: &[f64; 36], force: Wrench, bias: Twist, t: Term) -> Wrench
     ensures { result ≡ reduced_force reduced.now force bias t }
 {
-    let u = t.u;
     let share = t.bias / t.d;
-    carried_force(reduced, force, bias).plus(u.scale(share))
+    carried_force(reduced, force, bias).plus(t.u.scale(share))
 }

@@ -9,21 +9,22 @@ use spatial::operators;
 use spatial::twist::Twist;
 
 // Before the joint's own acceleration.
+#[tactic(auto, unfolding(crate::specs::Third::carried_acceleration))]
 pub fn carried_acceleration(frame: Frame, parent: Twist, bias: Twist) -> Twist
     ensures { result ≡ carried_acceleration frame parent bias }
 {
     operators::motion_to_child(frame, parent).plus(bias)
 }
 
+#[tactic(auto, unfolding(crate::specs::Third::joint_acceleration))]
 pub fn joint_acceleration(a: Twist, t: Term) -> f64
     ensures { result ≡ joint_acceleration a t }
 {
-    let bias = t.bias;
-    let d = t.d;
-    (bias - operators::motion_force_dot(a, t.u)) / d
+    (t.bias - operators::motion_force_dot(a, t.u)) / t.d
 }
 
 // With it.
+#[tactic(auto, unfolding(crate::specs::Third::moved_by))]
 pub fn moved_by(motion: Motion, a: Twist, x: f64) -> Twist
     ensures { result ≡ moved_by motion a x }
 {

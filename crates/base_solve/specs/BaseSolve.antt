@@ -1,6 +1,6 @@
 -- The base solve of document 01: B = D⁻¹ A D⁻¹, B y = D⁻¹ b, x = D⁻¹ y, with its tests in their order. Definitions only.
 -- A vector is a list of six, a matrix a list of 36, row by row.
-use Rattle.std.specs.Prelude.{Bool, true, not, cond, ◌&&◌, List, [], ◌∷◌, ℕ, zero, suc, ◌/◌, ◌%◌, get_or, set, Float}
+use Rattle.std.specs.Prelude.{Bool, true, not, cond, ◌&&◌, List, [], ◌∷◌, ℕ, zero, suc, ◌/◌, ◌%◌, get_or, set, Float, Option, Some, None, Result, Ok, Err}
 use Rattle.std.specs.Float.{nan}
 use Rattle.std.specs.Float.Ieee.{lt, le}
 use Rattle.numbers.specs.Double.{◌⊕◌, ◌⊖◌, ◌⊗◌, ◌⊘◌, bits, 0·0, 1·0, abs_of, max_of, all_finite, amax_of}
@@ -9,44 +9,35 @@ use Rattle.numbers.specs.Table.{tab}
 use Rattle.square_root.specs.SquareRoot.{root_of}
 use Rattle.mat6.specs.Mat6.{cell, apply_of}
 use Rattle.cholesky.specs.Cholesky.{cholesky_of, solve_of}
-use Rattle.square_root.specs.declared.Root.{Root}
-use Rattle.square_root.specs.declared.Root.TheVariants.{Is, No}
 use Rattle.spatial.specs.Twist.{of_vector, zeros_of}
 use Rattle.spatial.specs.declared.twist.Twist.{Twist}
-use Rattle.base_solve.specs.declared.Solved.{Solved}
-use Rattle.base_solve.specs.declared.Solved.TheVariants.{Of, Singular, IllConditioned, Numerical}
-use Rattle.base_solve.specs.declared.Inverse.{Inverse}
+use Rattle.base_solve.specs.declared.Unsolved.{Unsolved}
+use Rattle.base_solve.specs.declared.Unsolved.TheVariants.{Singular, IllConditioned, Numerical}
 
 -- ---- the answer, by document 01's number: 0 is solved
 
-abbrev pub refusal_number : Solved → ℕ
-refusal_number (Of x) = 0
+abbrev pub refusal_number : Unsolved → ℕ
 refusal_number Singular = 32
 refusal_number IllConditioned = 33
 refusal_number Numerical = 34
 
--- the solution; a refusal has none
-abbrev pub values_of : Solved → Twist
-values_of (Of x) = x
-values_of Singular = zeros_of
-values_of IllConditioned = zeros_of
-values_of Numerical = zeros_of
-
-abbrev pub told : Solved → ℕ × Twist
-told s = (refusal_number s, values_of s)
-
 abbrev pub solved : Twist → ℕ × Twist
 solved x = (0, x)
 
+-- a refusal has no solution
 abbrev pub refusal : ℕ → ℕ × Twist
 refusal number = (number, zeros_of)
+
+abbrev pub told : Result Twist Unsolved → ℕ × Twist
+told (Ok x) = solved x
+told (Err u) = refusal (refusal_number u)
 
 -- ---- scaling
 
 -- the root, and NaN where there is none
-unfoldable pub root_or : Root → Float
-root_or (Is r) = r
-root_or No = nan
+unfoldable pub root_or : Option Float → Float
+root_or (Some r) = r
+root_or None = nan
 
 -- the first n of the diagonal are not ≤ 0
 unfoldable pub above_to : List Float → ℕ → Bool
@@ -97,13 +88,14 @@ size_of v = sum_to (λ i. abs_of (get_or v i nan)) 6
 unfoldable pub basis : ℕ → List Float
 basis j = set (0·0 ∷ 0·0 ∷ 0·0 ∷ 0·0 ∷ 0·0 ∷ 0·0 ∷ []) j 1·0
 
--- one column of the inverse more
-unfoldable pub next_norm : List Float → Inverse → ℕ → Inverse
-next_norm l f j = let x = solve_of l (basis j) in record { finite = f.finite && all_finite x; top = max_of f.top (size_of x) }
+-- one column of the inverse more: its sum too, or none where it is not finite
+unfoldable pub next_norm : List Float → Option Float → ℕ → Option Float
+next_norm l None j = None
+next_norm l (Some top) j = let x = solve_of l (basis j) in cond (all_finite x) (Some (max_of top (size_of x))) None
 
--- the first n columns of the inverse: whether all are finite, and the largest of 0 and their sums
-unfoldable pub inverse_to : List Float → ℕ → Inverse
-inverse_to l zero = record { finite = true; top = 0·0 }
+-- the first n columns of the inverse: the largest of 0 and their sums, or none where one is not finite
+unfoldable pub inverse_to : List Float → ℕ → Option Float
+inverse_to l zero = Some 0·0
 inverse_to l (suc n) = next_norm l (inverse_to l n) n
 
 -- ---- the residual
@@ -140,12 +132,13 @@ solution_of a l b s norm =
 abbrev pub condition_bound : Float
 condition_bound = bits 0x3e50_0000_0000_0000
 
--- inverse column not finite, 33; (1/norm)/inverse norm ≤ 2^-26, 33
+-- inverse column not finite, 33; (1/norm)/inverse norm ≤ 2^-26, 33; the last is what is answered otherwise
+abbrev pub condition_of : Float → Option Float → ℕ × Twist → ℕ × Twist
+condition_of norm None x = refusal 33
+condition_of norm (Some top) x = cond (le (1·0 ⊘ norm ⊘ top) condition_bound) (refusal 33) x
+
 unfoldable pub conditioned_of : List Float → List Float → List Float → List Float → ℕ × Twist
-conditioned_of a l b s =
-    let norm = norm_to a 6 in
-    let inverse = inverse_to l 6 in
-    cond inverse.finite (cond (le (1·0 ⊘ norm ⊘ inverse.top) condition_bound) (refusal 33) (solution_of a l b s norm)) (refusal 33)
+conditioned_of a l b s = let norm = norm_to a 6 in condition_of norm (inverse_to l 6) (solution_of a l b s norm)
 
 -- scaled matrix or right side not finite, 34; Cholesky fails, 32
 unfoldable pub factored_of : List Float → List Float → List Float → ℕ × Twist

@@ -1,90 +1,61 @@
 // The solve of a floating base: B = D⁻¹ A D⁻¹, B y = D⁻¹ b, x = D⁻¹ y, with document 01's tests in their order.
 #![tactic(auto)]
 
-ghost use Rattle.std.specs.Prelude.{◌≡◌, ◌+◌, ◌*◌, ◌<◌, length, take};
+ghost use Rattle.std.specs.Prelude.{◌≡◌, ◌<◌};
 ghost use Rattle.square_root.specs.SquareRoot.{root_of};
 ghost use Rattle.spatial.specs.Wrench.{vector_of};
-ghost use Rattle.base_solve.specs.BaseSolve.{told, root_or, above_to, scale_of, scaled_of, divided_of, over_of, difference_of, column_sum, norm_to, size_of, basis, next_norm, inverse_to, residual_of, near_of, checked_of, solution_of, conditioned_of, factored_of, base_solve};
+ghost use Rattle.base_solve.specs.BaseSolve.{told, root_or, above_to, scale_of, scaled_of, divided_of, over_of, difference_of, column_sum, norm_to, size_of, basis, inverse_to, residual_of, near_of, checked_of, solution_of, conditioned_of, factored_of, base_solve};
 
 use numbers::double;
 use spatial::twist::Twist;
 use spatial::wrench::Wrench;
-use square_root::Root;
+use std::array;
 
-#[derive(Clone, Copy)]
-pub enum Solved {
-    Of(Twist),
+// Why a base is not solved.
+#[derive(Clone, Copy, Debug, PartialEq, Eq)]
+pub enum Unsolved {
     Singular,
     IllConditioned,
     Numerical,
 }
 
-// Whether the columns of the inverse so far are finite, and the largest of their sums.
-#[derive(Clone, Copy)]
-pub struct Inverse {
-    pub finite: bool,
-    pub top: f64,
-}
+// 2^-45: a residual may be so much of its denominator.
+const RESIDUAL_BOUND: f64 = 2.8421709430404007434844970703125e-14;
+
+// 2^-26: up to here a reciprocal condition is ill.
+const CONDITION_BOUND: f64 = 1.490116119384765625e-8;
 
 // The root; NaN where there is none, which a diagonal above zero does not meet.
 fn sqrt(x: f64) -> f64
     ensures { result ≡ root_or (root_of x) }
 {
-    let s = square_root::sqrt(x);
-    match s {
-        Root::Is(r) => r,
-        Root::No => 0.0 / 0.0,
-    }
+    square_root::sqrt(x).unwrap_or(f64::NAN)
 }
 
 // No number of the diagonal is 0 or below.
 fn diagonal_above(a: &[f64; 36]) -> bool
     ensures { result ≡ above_to a.now 6 }
 {
-    let mut ok = true;
-    let mut k: usize = 0;
-    while k < 6 {
-        ok = double::both(ok, !(a[k * 6 + k] <= 0.0));
-        k += 1;
-    }
-    ok
+    (0..6).all(|k| !(a[k * 6 + k] <= 0.0))
 }
 
 // The roots of the diagonal.
 fn scale(a: &[f64; 36]) -> [f64; 6]
     ensures { result ≡ scale_of a.now }
 {
-    let mut m = [0.0; 6];
-    let mut t: usize = 0;
-    while t < 6 {
-        let x = sqrt(a[t * 6 + t]);
-        m[t] = x;
-        t += 1;
-    }
-    m
+    array::from_fn(|t| sqrt(a[t * 6 + t]))
 }
 
-// Row i, where those before it stand.
-fn scaled_row(m: &mut [f64; 36], a: &[f64; 36], s: &[f64; 6], i: usize)
-    requires { (i < 6) × (length m.old ≡ 36) × (take (i * 6) m.old ≡ take (i * 6) (scaled_of a.now s.now)) }
-    ensures { (length m.new ≡ 36) × (take ((i + 1) * 6) m.new ≡ take ((i + 1) * 6) (scaled_of a.now s.now)) }
-{
-    let mut j: usize = 0;
-    while j < 6 {
-        let t = i * 6 + j;
-        m[t] = a[t] / s[i] / s[j];
-        j += 1;
-    }
-}
-
+// Row by row: `array::from_fn` would divide the index for each number, which is slower.
 fn scaled(a: &[f64; 36], s: &[f64; 6]) -> [f64; 36]
     ensures { result ≡ scaled_of a.now s.now }
 {
     let mut m = [0.0; 36];
-    let mut i: usize = 0;
-    while i < 6 {
-        scaled_row(&mut m, a, s, i);
-        i += 1;
+    for i in 0..6 {
+        for j in 0..6 {
+            let t = i * 6 + j;
+            m[t] = a[t] / s[i] / s[j];
+        }
     }
     m
 }
@@ -92,79 +63,59 @@ fn scaled(a: &[f64; 36], s: &[f64; 6]) -> [f64; 36]
 fn divided(b: &[f64; 6], s: &[f64; 6]) -> [f64; 6]
     ensures { result ≡ divided_of b.now s.now }
 {
-    let mut m = [0.0; 6];
-    let mut t: usize = 0;
-    while t < 6 {
-        m[t] = b[t] / s[t];
-        t += 1;
-    }
-    m
+    array::from_fn(|t| b[t] / s[t])
 }
 
 fn over(b: &[f64; 6], g: f64) -> [f64; 6]
     ensures { result ≡ over_of b.now g }
 {
-    let mut m = [0.0; 6];
-    let mut t: usize = 0;
-    while t < 6 {
-        m[t] = b[t] / g;
-        t += 1;
-    }
-    m
+    array::from_fn(|t| b[t] / g)
 }
 
 fn difference(a: &[f64; 6], b: &[f64; 6]) -> [f64; 6]
     ensures { result ≡ difference_of a.now b.now }
 {
-    let mut m = [0.0; 6];
-    let mut t: usize = 0;
-    while t < 6 {
-        m[t] = a[t] - b[t];
-        t += 1;
-    }
-    m
+    array::from_fn(|t| a[t] - b[t])
 }
 
 // The sum of the sizes of column j.
+#[tactic(auto, unfolding(crate::specs::BaseSolve::column_sum, numbers::specs::Sum::sum_to))]
 fn column_sum(a: &[f64; 36], j: usize) -> f64
     requires { j < 6 }
     ensures { result ≡ column_sum a.now j }
 {
-    let mut s = double::abs(a[0 * 6 + j]);
-    let mut k: usize = 0;
-    while k < 5 {
-        k += 1;
-        s = s + double::abs(a[k * 6 + j]);
+    let mut s = double::abs(a[j]);
+    for k in 1..6 {
+        s += double::abs(a[k * 6 + j]);
     }
     s
 }
 
 // The largest of the columns' sums.
+#[tactic(auto, unfolding(crate::specs::BaseSolve::norm_to))]
 fn norm(a: &[f64; 36]) -> f64
     ensures { result ≡ norm_to a.now 6 }
 {
     let mut x = 0.0;
-    let mut k: usize = 0;
-    while k < 6 {
+    for k in 0..6 {
         x = double::max(x, column_sum(a, k));
-        k += 1;
     }
     x
 }
 
 // The sum of the sizes.
+#[tactic(auto, unfolding(crate::specs::BaseSolve::size_of, numbers::specs::Sum::sum_to))]
 fn size(v: &[f64; 6]) -> f64
     ensures { result ≡ size_of v.now }
 {
     let mut s = double::abs(v[0]);
-    let mut k: usize = 0;
-    while k < 5 {
-        k += 1;
-        s = s + double::abs(v[k]);
+    for k in 1..6 {
+        s += double::abs(v[k]);
     }
     s
 }
 
+#[tactic(auto, unfolding(crate::specs::BaseSolve::basis))]
 fn basis_vector(j: usize) -> [f64; 6]
     requires { j < 6 }
     ensures { result ≡ basis j }
@@ -174,120 +125,110 @@ fn basis_vector(j: usize) -> [f64; 6]
     v
 }
 
-fn next_norm(l: &[f64; 36], f: Inverse, j: usize) -> Inverse
-    requires { j < 6 }
-    ensures { result ≡ next_norm l.now f j }
-{
-    let e = basis_vector(j);
-    let x = cholesky::solve(l, e);
-    Inverse {
-        finite: double::both(f.finite, double::all_finite(&x)),
-        top: double::max(f.top, size(&x)),
-    }
-}
-
-// The inverse is not kept: its columns are looked at one by one.
-fn inverse_norm(l: &[f64; 36]) -> Inverse
+// The largest sum of a column of the inverse, whose columns are looked at one by one; none where one is not finite.
+#[tactic(auto, unfolding(crate::specs::BaseSolve::inverse_to, crate::specs::BaseSolve::next_norm))]
+fn inverse_norm(l: &[f64; 36]) -> Option<f64>
     ensures { result ≡ inverse_to l.now 6 }
 {
-    let mut f = Inverse {
-        finite: true,
-        top: 0.0,
-    };
-    let mut k: usize = 0;
-    while k < 6 {
-        f = next_norm(l, f, k);
-        k += 1;
+    let mut top = 0.0;
+    for j in 0..6 {
+        let x = cholesky::solve(l, basis_vector(j));
+        if !double::all_finite(&x) {
+            return None;
+        }
+        top = double::max(top, size(&x));
     }
-    f
+    Some(top)
 }
 
+#[tactic(auto, unfolding(crate::specs::BaseSolve::residual_of))]
 fn residual(a: &[f64; 36], y: &[f64; 6], b: &[f64; 6]) -> [f64; 6]
     ensures { result ≡ residual_of a.now y.now b.now }
 {
-    let p = mat6::apply(a, y);
-    difference(&p, b)
+    difference(&mat6::apply(a, y), b)
 }
 
 // Whether the residual is finite and at most 2^-45 of the denominator.
+#[tactic(auto, unfolding(crate::specs::BaseSolve::near_of))]
 fn near(a: &[f64; 36], y: &[f64; 6], b: &[f64; 6], norm: f64) -> bool
     ensures { result ≡ near_of a.now y.now b.now norm }
 {
     let r = residual(a, y, b);
     let denominator = norm * double::amax(y) + double::amax(b);
-    let top = double::amax(&r);
-    let small = !(0.00000000000002842170943040400743484497070312500 * denominator < top);
-    double::both(double::all_finite(&r), small)
+    let large = RESIDUAL_BOUND * denominator < double::amax(&r);
+    double::all_finite(&r) && !large
 }
 
 // y and b are divided by their magnitude first, so that the test itself does not overflow.
+#[tactic(auto, unfolding(crate::specs::BaseSolve::checked_of))]
 fn checked(a: &[f64; 36], y: &[f64; 6], b: &[f64; 6], norm: f64) -> bool
     ensures { result ≡ checked_of a.now y.now b.now norm }
 {
     let magnitude = double::max(double::amax(y), double::amax(b));
     if 0.0 < magnitude {
-        let u = over(y, magnitude);
-        let v = over(b, magnitude);
-        return near(a, &u, &v, norm);
+        return near(a, &over(y, magnitude), &over(b, magnitude), norm);
     }
     true
 }
 
 // The solution and its two tests.
-fn solution(a: &[f64; 36], l: &[f64; 36], b: [f64; 6], s: &[f64; 6], norm: f64) -> Solved
+#[tactic(auto, unfolding(crate::specs::BaseSolve::solution_of))]
+fn solution(
+    a: &[f64; 36],
+    l: &[f64; 36],
+    b: [f64; 6],
+    s: &[f64; 6],
+    norm: f64,
+) -> Result<Twist, Unsolved>
     ensures { told result ≡ solution_of a.now l.now b s.now norm }
 {
     let y = cholesky::solve(l, b);
     let x = divided(&y, s);
-    if double::both(double::all_finite(&y), double::all_finite(&x)) {
-        if checked(a, &y, &b, norm) {
-            return Solved::Of(Twist::from_vector(&x));
-        }
+    if double::all_finite(&y) && double::all_finite(&x) && checked(a, &y, &b, norm) {
+        return Ok(Twist::from_vector(&x));
     }
-    Solved::Numerical
+    Err(Unsolved::Numerical)
 }
 
 // The tests of the condition, then the solution.
-fn conditioned(a: &[f64; 36], l: &[f64; 36], b: [f64; 6], s: &[f64; 6]) -> Solved
+#[tactic(auto, unfolding(crate::specs::BaseSolve::conditioned_of))]
+fn conditioned(a: &[f64; 36], l: &[f64; 36], b: [f64; 6], s: &[f64; 6]) -> Result<Twist, Unsolved>
     ensures { told result ≡ conditioned_of a.now l.now b s.now }
 {
     let n = norm(a);
-    let f = inverse_norm(l);
-    if f.finite {
-        if (1.0 / n) / f.top <= 0.00000001490116119384765625 {
-            return Solved::IllConditioned;
-        }
-        return solution(a, l, b, s, n);
+    let top = inverse_norm(l).ok_or(Unsolved::IllConditioned)?;
+    if (1.0 / n) / top <= CONDITION_BOUND {
+        return Err(Unsolved::IllConditioned);
     }
-    Solved::IllConditioned
+    solution(a, l, b, s, n)
 }
 
 // The scaled numbers are tested and factored, then the rest.
-fn factored(a: &[f64; 36], b: [f64; 6], s: &[f64; 6]) -> Solved
+#[tactic(auto, unfolding(crate::specs::BaseSolve::factored_of))]
+fn factored(a: &[f64; 36], b: [f64; 6], s: &[f64; 6]) -> Result<Twist, Unsolved>
     ensures { told result ≡ factored_of a.now b s.now }
 {
-    if double::both(double::all_finite(a), double::all_finite(&b)) {
-        let mut l = *a;
-        if cholesky::cholesky(&mut l) {
-            return conditioned(a, &l, b, s);
-        }
-        return Solved::Singular;
+    if !(double::all_finite(a) && double::all_finite(&b)) {
+        return Err(Unsolved::Numerical);
     }
-    Solved::Numerical
+    let mut l = *a;
+    if !cholesky::cholesky(&mut l) {
+        return Err(Unsolved::Singular);
+    }
+    conditioned(a, &l, b, s)
 }
 
-pub fn solve_base_inertia(inertia: &[f64; 36], rhs: Wrench) -> Solved
+#[tactic(auto, unfolding(crate::specs::BaseSolve::base_solve))]
+pub fn solve_base_inertia(inertia: &[f64; 36], rhs: Wrench) -> Result<Twist, Unsolved>
     ensures { told result ≡ base_solve inertia.now (vector_of rhs) }
 {
     let b = rhs.to_vector();
-    if double::both(double::all_finite(inertia), double::all_finite(&b)) {
-        if diagonal_above(inertia) {
-            let s = scale(inertia);
-            let m = scaled(inertia, &s);
-            let c = divided(&b, &s);
-            return factored(&m, c, &s);
-        }
-        return Solved::Singular;
+    if !(double::all_finite(inertia) && double::all_finite(&b)) {
+        return Err(Unsolved::Numerical);
     }
-    Solved::Numerical
+    if !diagonal_above(inertia) {
+        return Err(Unsolved::Singular);
+    }
+    let s = scale(inertia);
+    factored(&scaled(inertia, &s), divided(&b, &s), &s)
 }

@@ -1,18 +1,15 @@
 -- The builder's model (document 01, "Model"; document 02, item 11). Definitions only.
-use Rattle.std.specs.Prelude.{cond, List, ◌≡◌, ℕ, ◌*◌, ◌/◌, ◌%◌, ltb, length, get_or, Float}
+use Rattle.std.specs.Prelude.{cond, Option, Some, None, Ok, Err, List, ◌≡◌, ℕ, ◌*◌, ◌/◌, ◌%◌, ltb, length, get_or, Float}
 use Rattle.std.specs.Float.{nan}
 use Rattle.numbers.specs.Double.{0·0}
 use Rattle.numbers.specs.Table.{tab}
 use Rattle.numbers.specs.Vec3.{comp, vec_by}
 use Rattle.numbers.specs.declared.vec3.Vec3.{Vec3}
-use Rattle.refusals.specs.declared.Verdict.{Verdict}
-use Rattle.refusals.specs.declared.Verdict.TheVariants.{Fine, Refused}
+use Rattle.refusals.specs.Refusals.{Verdict}
 use Rattle.arm.specs.Joint.{is_fixed}
 use Rattle.arm.specs.Model.{kind_of, rotor_of, empty_model, Good}
 use Rattle.builder.specs.Checks.{axis_of, verdict_of}
 use Rattle.builder.specs.declared.build.Built.{Built}
-use Rattle.builder.specs.declared.axis.Axis.{Axis}
-use Rattle.builder.specs.declared.axis.Axis.TheVariants.{Of, Bad}
 use Rattle.arm.specs.declared.model.Model.{Model}
 
 -- ---- slots: the first k as handed in, those past them as in the empty model
@@ -31,9 +28,9 @@ unfolding tab
 double_slots s size = tab (slot_by 0·0 (length s) (λ t. get_or s t nan)) size
 
 -- axes: what the axis rule keeps; that it refuses none is checked before
-abbrev pub axis_by : Axis → Vec3
-axis_by (Of v) = v
-axis_by Bad = vec_by (λ i. 0·0)
+abbrev pub axis_by : Option Vec3 → Vec3
+axis_by (Some v) = v
+axis_by None = vec_by (λ i. 0·0)
 
 unfoldable pub axis_slot : ℕ → List ℕ → List Float → ℕ → Vec3
 axis_slot n kinds axes j = slot_by (vec_by (λ i. 0·0)) n (λ i. axis_by (axis_of kinds axes i)) j
@@ -66,8 +63,8 @@ model_of n parents kinds origins axes links rotors =
 
 -- a refusal returns the empty model
 abbrev pub model_by : Verdict → Model → Model
-model_by Fine m = m
-model_by (Refused number p) m = empty_model
+model_by (Ok u) m = m
+model_by (Err r) m = empty_model
 
 unfoldable pub built_of : ℕ → List ℕ → List ℕ → List Float → List Float → List Float → List Float → Built
 built_of n parents kinds origins axes links rotors =

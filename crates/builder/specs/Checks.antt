@@ -1,15 +1,13 @@
 -- The builder's checks (document 01, "Refusal numbers" 1 to 7; document 02, item 9, refusal 8, and item 11, refusal 26). Definitions only.
-use Rattle.std.specs.Prelude.{Bool, true, false, not, ◌&&◌, ◌||◌, List, ◌≡◌, ℕ, ◌+◌, ◌*◌, ◌≤◌, eqb, ltb, length, take, drop, Float}
+use Rattle.std.specs.Prelude.{Bool, true, false, not, ◌&&◌, ◌||◌, Option, Some, None, List, ◌≡◌, ℕ, ◌+◌, ◌*◌, ◌≤◌, eqb, ltb, length, take, drop, Float}
 use Rattle.std.specs.Float.Ieee.{lt}
 use Rattle.numbers.specs.Double.{0·0, finite, all_finite}
-use Rattle.refusals.specs.Refusals.{lowest, named_of, plain_of, or_else}
-use Rattle.refusals.specs.declared.Verdict.{Verdict}
+use Rattle.numbers.specs.declared.vec3.Vec3.{Vec3}
+use Rattle.refusals.specs.Refusals.{Verdict, lowest, named_of, plain_of, or_else}
 use Rattle.slots.specs.Slots.{vec3_at, frame_at}
 use Rattle.arm.specs.Joint.{is_fixed, not_unit}
 use Rattle.builder.specs.Axis.{kept_axis}
 use Rattle.arm.specs.Model.{kind_of, rotor_of, link_of, bad_parent, bad_kind}
-use Rattle.builder.specs.declared.axis.Axis.{Axis}
-use Rattle.builder.specs.declared.axis.Axis.TheVariants.{Of, Bad}
 
 -- ---- one test each; those of 3 and 4 are the model's
 
@@ -18,13 +16,13 @@ unfoldable pub sized_by : ℕ → ℕ → ℕ → ℕ → ℕ → ℕ → ℕ �
 sized_by n parents kinds origins axes links rotors = eqb parents n && eqb kinds n && eqb origins (n * 7) && eqb axes (n * 3) && eqb links ((n + 1) * 10) && eqb rotors n
 
 -- the axis that joint j keeps
-unfoldable pub axis_of : List ℕ → List Float → ℕ → Axis
+unfoldable pub axis_of : List ℕ → List Float → ℕ → Option Vec3
 axis_of kinds axes j = kept_axis (kind_of kinds j) (vec3_at axes (j * 3))
 
 -- 5: the axis rule
-abbrev pub refused : Axis → Bool
-refused (Of v) = false
-refused Bad = true
+abbrev pub refused : Option Vec3 → Bool
+refused (Some v) = false
+refused None = true
 
 unfoldable pub bad_axis : List ℕ → List Float → ℕ → Bool
 bad_axis kinds axes j = refused (axis_of kinds axes j)

@@ -2,16 +2,16 @@
 ghost use Rattle.std.specs.Prelude.{◌≡◌, ℕ, ◌*◌, ◌≤◌, ◌<◌, length, get_or};
 ghost use Rattle.builder.specs.Build.{Listed, byte_slots, double_slots, axis_slot, axis_slots, rotor_slots, model_of, built_of};
 
-use crate::axis::Axis;
 use crate::checks;
 use arm::model;
 use arm::model::Model;
 use numbers::vec3::Vec3;
-use refusals::Verdict;
+use refusals::Refusal;
+use std::array;
 
 #[derive(Clone, Copy)]
 pub struct Built {
-    pub verdict: Verdict,
+    pub verdict: Result<(), Refusal>,
     pub model: Model,
 }
 
@@ -20,32 +20,14 @@ fn byte_slots(n: usize, s: &[u64]) -> [u8; 32]
     requires { (n ≤ length s.now) × ((j : ℕ) → j < n → get_or s.now j 0 < 256) }
     ensures { result ≡ byte_slots n s.now }
 {
-    let mut slots: [u8; 32] = [0; 32];
-    let mut j: usize = 0;
-    while j < 32 {
-        let mut x: u8 = 0;
-        if j < n {
-            x = s[j] as u8;
-        }
-        slots[j] = x;
-        j += 1;
-    }
-    slots
+    array::from_fn(|j| if j < n { s[j] as u8 } else { 0 })
 }
 
-// Origins or links, into all of the slots.
-fn double_slots(slots: &mut [f64], s: &[f64])
-    ensures { slots.new ≡ double_slots s.now (length slots.old) }
+// Origins or links.
+fn double_slots<const N: usize>(s: &[f64]) -> [f64; N]
+    ensures { result ≡ double_slots s.now N }
 {
-    let mut t: usize = 0;
-    while t < slots.len() {
-        let mut x = 0.0;
-        if t < s.len() {
-            x = s[t];
-        }
-        slots[t] = x;
-        t += 1;
-    }
+    array::from_fn(|t| if t < s.len() { s[t] } else { 0.0 })
 }
 
 #[tactic(auto, unfolding(crate::specs::Build::axis_slot))]
@@ -61,11 +43,7 @@ fn axis_slot<'a>(n: usize, kinds: &'a [u64], axes: &'a [f64], j: usize) -> Vec3
     if n <= j {
         return zero;
     }
-    let axis = checks::axis_at(kinds, axes, j);
-    match axis {
-        Axis::Of(v) => v,
-        Axis::Bad => zero,
-    }
+    checks::axis_at(kinds, axes, j).unwrap_or(zero)
 }
 
 fn axis_slots<'a>(n: usize, kinds: &'a [u64], axes: &'a [f64]) -> [f64; 96]
@@ -73,13 +51,8 @@ fn axis_slots<'a>(n: usize, kinds: &'a [u64], axes: &'a [f64]) -> [f64; 96]
     ensures { result ≡ axis_slots n kinds.now axes.now }
 {
     let mut slots = [0.0; 96];
-    let mut j: usize = 0;
-    while j < 32 {
-        let v = axis_slot(n, kinds, axes, j);
-        slots[j * 3] = v.x;
-        slots[j * 3 + 1] = v.y;
-        slots[j * 3 + 2] = v.z;
-        j += 1;
+    for j in 0..32 {
+        slots::put_vec3(&mut slots, j * 3, axis_slot(n, kinds, axes, j));
     }
     slots
 }
@@ -89,21 +62,16 @@ fn rotor_slots<'a>(n: usize, kinds: &'a [u64], rotors: &'a [f64]) -> [f64; 32]
     requires { (n ≤ length kinds.now) × (n ≤ length rotors.now) }
     ensures { result ≡ rotor_slots n kinds.now rotors.now }
 {
-    let mut slots = [0.0; 32];
-    let mut j: usize = 0;
-    while j < 32 {
-        let mut x = 0.0;
-        if j < n {
-            if kinds[j] != 2 {
-                x = rotors[j];
-            }
+    array::from_fn(|j| {
+        if j < n && kinds[j] != 2 {
+            rotors[j]
+        } else {
+            0.0
         }
-        slots[j] = x;
-        j += 1;
-    }
-    slots
+    })
 }
 
+#[tactic(auto, unfolding(crate::specs::Build::model_of))]
 fn filled<'a>(
     n: usize,
     parents: &'a [u64],
@@ -116,26 +84,19 @@ fn filled<'a>(
     requires { Listed n parents.now kinds.now (length axes.now) (length rotors.now) }
     ensures { result ≡ model_of n parents.now kinds.now origins.now axes.now links.now rotors.now }
 {
-    let parent_slots = byte_slots(n, parents);
-    let kind_slots = byte_slots(n, kinds);
-    let mut origin_slots = [0.0; 224];
-    double_slots(&mut origin_slots, origins);
-    let axis_slots = axis_slots(n, kinds, axes);
-    let mut link_slots = [0.0; 330];
-    double_slots(&mut link_slots, links);
-    let rotor_slots = rotor_slots(n, kinds, rotors);
     Model {
         n,
-        parents: parent_slots,
-        kinds: kind_slots,
-        origins: origin_slots,
-        axes: axis_slots,
-        links: link_slots,
-        rotors: rotor_slots,
+        parents: byte_slots(n, parents),
+        kinds: byte_slots(n, kinds),
+        origins: double_slots(origins),
+        axes: axis_slots(n, kinds, axes),
+        links: double_slots(links),
+        rotors: rotor_slots(n, kinds, rotors),
     }
 }
 
 // The model of n joints and n + 1 links, or the empty model with the refusal.
+#[tactic(auto, unfolding(crate::specs::Build::built_of))]
 pub fn build<'a>(
     n: usize,
     parents: &'a [u64],
@@ -148,14 +109,9 @@ pub fn build<'a>(
     ensures { result ≡ built_of n parents.now kinds.now origins.now axes.now links.now rotors.now }
 {
     let verdict = checks::judged(n, parents, kinds, origins, axes, links, rotors);
-    match verdict {
-        Verdict::Fine => {
-            let model = filled(n, parents, kinds, origins, axes, links, rotors);
-            return Built { verdict, model };
-        }
-        Verdict::Refused(_, _) => {
-            let model = model::empty();
-            return Built { verdict, model };
-        }
-    }
+    let model = match verdict {
+        Ok(()) => filled(n, parents, kinds, origins, axes, links, rotors),
+        Err(_) => model::empty(),
+    };
+    Built { verdict, model }
 }

@@ -1,223 +1,143 @@
 // The requests of the four calculations, once, many times, or from a position.
-ghost use Rattle.std.specs.Prelude.{◌≡◌, ◌++◌, ◌+◌, ◌≤◌, length, take};
-ghost use Rattle.words.specs.Read.{words_at};
+ghost use Rattle.std.specs.Prelude.{◌≡◌, ◌++◌, ◌+◌, ◌≤◌, [], length, take, option_map, IfSome};
+ghost use Rattle.words.specs.Read.{ReadBy};
 ghost use Rattle.replies.specs.Replies.{room, text_of};
 ghost use Rattle.readings.specs.Lent.{ones};
-ghost use Rattle.forward_visits.specs.Inputs.{inputs_by};
+ghost use Rattle.readings.specs.Read.{inputs_of};
 ghost use Rattle.dynamics.specs.Calculation.{work_of};
-ghost use Rattle.calculations.specs.Make.{made_of, made_by};
-ghost use Rattle.calculation_requests.specs.Request.{made_line, idle_by, calculate_request, repeat_request, resume_request};
+ghost use Rattle.calculations.specs.Make.{made_of};
+ghost use Rattle.calculation_requests.specs.Request.{made_line, idle_by, task, task_by, times, from, calculate_request, repeat_request, resume_request};
 
 use arm::model::Model;
-use calculations::make::{How, Last, make};
+use calculations::make::{How, make};
 use dynamics::calculation::Calculation;
+use readings::buffer::Buffer;
 use readings::lent::{fill, output_buffer};
 use readings::read::{
-    Kind, LastLent, NextCalculation, NextInputs, NextKind, NextPosition, last_lent,
-    next_calculation, next_inputs, next_kind, next_position,
+    Buffers, Kind, Lent, last_lent, next_calculation, next_inputs, next_kind, next_position,
 };
 use replies::error;
 use words::list::{double_buffer, number_buffer};
-use words::read::{Cursor, Next, next_number};
+use words::read::Words;
 use writings::write::put_made;
 
-// The calculation on a model: its lists are lent.
-fn made<'a>(
-    how: How,
-    c: Calculation,
-    m: Model,
-    q: &'a [f64],
-    qd: &'a [f64],
-    forces: &'a [f64],
-    loaded: &'a [u64],
-    loads: &'a [f64],
-    budgets: &'a [u64],
-    counts: &mut [u64],
-    ws: &mut [f64],
-    out: &mut [f64],
-) -> Last
-    requires { (length budgets.now ≤ 4096) × (length counts.old ≡ 4096) }
-    ensures { (made_by result counts.new ws.new out.new ≡ made_of how (work_of c m (inputs_by q.now qd.now forces.now loaded.now loads.now)) budgets.now ws.old out.old) × (result.counts ≤ length counts.new) × (length counts.new ≡ length counts.old) }
-{
-    make(
-        how, c, m.n, &m.parents, &m.kinds, &m.origins, &m.axes, &m.links, &m.rotors, q, qd, forces,
-        loaded, loads, budgets, counts, ws, out,
-    )
-}
-
-// What is made on these buffers, as text.
-fn put_answer<'a>(
+// What is made on a workspace and an output of so many numbers, as text.
+fn answer(
     m: Model,
     how: How,
     c: Calculation,
-    q: &'a [f64],
-    qd: &'a [f64],
-    forces: &'a [f64],
-    loaded: &'a [u64],
-    loads: &'a [f64],
-    budgets: &'a [u64],
-    counts: &mut [u64],
-    ws: &mut [f64],
-    out: &mut [f64],
+    inputs: &Buffers,
+    budgets: &[u64],
+    sizes: Lent,
     text: &mut [u8],
     at: usize,
 ) -> usize
-    requires { (length budgets.now ≤ 4096) × (length counts.old ≡ 4096) × (length out.old ≤ 2048) × (at + room ≤ length text.old) }
-    ensures { (at ≤ result) × (result ≤ at + room) × (take result text.new ≡ take at text.old ++ made_line (made_of how (work_of c m (inputs_by q.now qd.now forces.now loaded.now loads.now)) budgets.now (ones (length ws.old)) (ones (length out.old)))) }
+    requires { (length budgets.now ≤ 4096) × (sizes.ws ≤ 4096) × (sizes.out ≤ 2048) × (at + room ≤ length text.old) }
+    ensures { (at ≤ result) × (result ≤ at + room) × (take result text.new ≡ take at text.old ++ made_line (made_of how (work_of c m (inputs_of inputs.now)) budgets.now (ones sizes.ws) (ones sizes.out))) }
 {
+    let counts = &mut number_buffer();
+    let ws = &mut double_buffer()[..sizes.ws];
+    let out = &mut output_buffer()[..sizes.out];
     fill(ws);
     fill(out);
-    let last = made(
-        how, c, m, q, qd, forces, loaded, loads, budgets, counts, ws, out,
+    let q = inputs.q.items();
+    let qd = inputs.qd.items();
+    let forces = inputs.forces.items();
+    let loaded = inputs.loaded.items();
+    let loads = inputs.loads.items();
+    let last = make(
+        how, c, m.n, &m.parents, &m.kinds, &m.origins, &m.axes, &m.links, &m.rotors, q, qd, forces,
+        loaded, loads, budgets, counts, ws, out,
     );
-    let n = last.counts;
-    let answer = last.answer;
-    let outcome = answer.outcome;
-    put_made(text, at, outcome, &counts[..n], ws, out)
-}
-
-// On a workspace and an output of so many numbers.
-fn answer<'a>(
-    m: Model,
-    how: How,
-    c: Calculation,
-    q: &'a [f64],
-    qd: &'a [f64],
-    forces: &'a [f64],
-    loaded: &'a [u64],
-    loads: &'a [f64],
-    budgets: &'a [u64],
-    ws: usize,
-    out: usize,
-    text: &mut [u8],
-    at: usize,
-) -> usize
-    requires { (length budgets.now ≤ 4096) × (ws ≤ 4096) × (out ≤ 2048) × (at + room ≤ length text.old) }
-    ensures { (at ≤ result) × (result ≤ at + room) × (take result text.new ≡ take at text.old ++ made_line (made_of how (work_of c m (inputs_by q.now qd.now forces.now loaded.now loads.now)) budgets.now (ones ws) (ones out))) }
-{
-    let mut counts = number_buffer();
-    let mut workspace = double_buffer();
-    let mut output = output_buffer();
-    put_answer(
-        m,
-        how,
-        c,
-        q,
-        qd,
-        forces,
-        loaded,
-        loads,
-        budgets,
-        &mut counts,
-        &mut workspace[..ws],
-        &mut output[..out],
-        text,
-        at,
-    )
+    let outcome = last.answer.outcome;
+    let counts = &counts[..last.counts];
+    put_made(text, at, outcome, counts, ws, out)
 }
 
 // A position is handed in, and no portion is asked.
-fn idle(how: How, budgets: usize) -> bool
-    ensures { result ≡ idle_by how budgets }
+fn idle(how: How, budgets: &[u64]) -> bool
+    ensures { result ≡ idle_by how (length budgets.now) }
 {
-    match how {
-        How::Times(_) => false,
-        How::From(_) => budgets == 0,
+    matches!(how, How::From(_)) && budgets.is_empty()
+}
+
+// The root's numbers, the inputs, what is lent, and the budgets.
+#[tactic(auto, unfolding(crate::specs::Request::task))]
+fn next_task(
+    mut words: Words,
+    how: How,
+    k: Kind,
+    inputs: &mut Buffers,
+    budgets: &mut Buffer<u64>,
+) -> Option<(Calculation, Lent)>
+    ensures read { ReadBy (task how k) words.entry (option_map (λ t. task_by t (inputs_of inputs.new) budgets.new) result) [] }
+    ensures few { IfSome result (λ t. (t.1.ws ≤ 4096) × (t.1.out ≤ 2048)) }
+{
+    let c = next_calculation(&mut words, k)?;
+    next_inputs(&mut words, c, inputs)?;
+    let sizes = last_lent(words, budgets)?;
+    if idle(how, budgets.items()) {
+        return None;
+    }
+    Some((c, sizes))
+}
+
+#[tactic(auto, unfolding(crate::specs::Request::calculate_request))]
+pub fn calculate(m: Model, how: How, k: Kind, words: Words, text: &mut [u8], at: usize) -> usize
+    requires { at + room ≤ length text.old }
+    ensures { (at ≤ result) × (result ≤ at + room) × (take result text.new ≡ take at text.old ++ text_of (calculate_request m how k words.entry)) }
+{
+    let mut inputs = Buffers::new();
+    let mut budgets = Buffer::new();
+    match next_task(words, how, k, &mut inputs, &mut budgets) {
+        Some((c, sizes)) => answer(m, how, c, &inputs, budgets.items(), sizes, text, at),
+        None => error(text, at),
     }
 }
 
-pub fn calculate(
-    m: Model,
-    how: How,
-    k: Kind,
-    s: &[u8],
-    c: Cursor,
-    text: &mut [u8],
-    at: usize,
-) -> usize
-    requires { (c.at ≤ length s.now) × (at + room ≤ length text.old) }
-    ensures { (at ≤ result) × (result ≤ at + room) × (take result text.new ≡ take at text.old ++ text_of (calculate_request m how k (words_at s.now c))) }
+// COUNT REQUEST.
+#[tactic(auto, unfolding(crate::specs::Request::times))]
+fn next_times(words: &mut Words) -> Option<(How, Kind)>
+    ensures { ReadBy times words.old result words.new }
 {
-    let mut q = double_buffer();
-    let mut qd = double_buffer();
-    let mut forces = double_buffer();
-    let mut loaded = number_buffer();
-    let mut loads = double_buffer();
-    let mut budgets = number_buffer();
-    let NextCalculation::Is(calculation, c0) = next_calculation(s, c, k) else {
-        return error(text, at);
-    };
-    let NextInputs::Is(sizes, c1) = next_inputs(
-        s,
-        c0,
-        calculation,
-        &mut q,
-        &mut qd,
-        &mut forces,
-        &mut loaded,
-        &mut loads,
-    ) else {
-        return error(text, at);
-    };
-    let LastLent::Is(lent) = last_lent(s, c1, &mut budgets) else {
-        return error(text, at);
-    };
-    let b = lent.budgets;
-    if idle(how, b) {
-        return error(text, at);
+    let count = words.next_number()?;
+    let k = next_kind(words)?;
+    if count == 0 || 1000000 < count {
+        return None;
     }
-    let n = sizes.q;
-    let d = sizes.qd;
-    let f = sizes.forces;
-    let l = sizes.loaded;
-    let w = sizes.loads;
-    answer(
-        m,
-        how,
-        calculation,
-        &q[..n],
-        &qd[..d],
-        &forces[..f],
-        &loaded[..l],
-        &loads[..w],
-        &budgets[..b],
-        lent.ws,
-        lent.out,
-        text,
-        at,
-    )
+    Some((How::Times(count), k))
 }
 
 // `repeat COUNT REQUEST`.
-pub fn repeat(m: Model, s: &[u8], c: Cursor, text: &mut [u8], at: usize) -> usize
-    requires { (c.at ≤ length s.now) × (at + room ≤ length text.old) }
-    ensures { (at ≤ result) × (result ≤ at + room) × (take result text.new ≡ take at text.old ++ text_of (repeat_request m (words_at s.now c))) }
+#[tactic(auto, unfolding(crate::specs::Request::repeat_request))]
+pub fn repeat(m: Model, mut words: Words, text: &mut [u8], at: usize) -> usize
+    requires { at + room ≤ length text.old }
+    ensures { (at ≤ result) × (result ≤ at + room) × (take result text.new ≡ take at text.old ++ text_of (repeat_request m words.entry)) }
 {
-    let Next::Is(count, c0) = next_number(s, c) else {
-        return error(text, at);
-    };
-    let NextKind::Is(k, c1) = next_kind(s, c0) else {
-        return error(text, at);
-    };
-    if count == 0 {
-        return error(text, at);
+    match next_times(&mut words) {
+        Some((how, k)) => calculate(m, how, k, words, text, at),
+        None => error(text, at),
     }
-    if 1000000 < count {
-        return error(text, at);
-    }
-    calculate(m, How::Times(count), k, s, c1, text, at)
+}
+
+// CALCULATION ROOT N A VISITS CLOSED REQUEST.
+#[tactic(auto, unfolding(crate::specs::Request::from))]
+fn next_from(words: &mut Words) -> Option<(How, Kind)>
+    ensures { ReadBy from words.old result words.new }
+{
+    let position = next_position(words)?;
+    let k = next_kind(words)?;
+    Some((How::From(position), k))
 }
 
 // `resume CALCULATION ROOT N A VISITS CLOSED REQUEST`.
-pub fn resume(m: Model, s: &[u8], c: Cursor, text: &mut [u8], at: usize) -> usize
-    requires { (c.at ≤ length s.now) × (at + room ≤ length text.old) }
-    ensures { (at ≤ result) × (result ≤ at + room) × (take result text.new ≡ take at text.old ++ text_of (resume_request m (words_at s.now c))) }
+#[tactic(auto, unfolding(crate::specs::Request::resume_request))]
+pub fn resume(m: Model, mut words: Words, text: &mut [u8], at: usize) -> usize
+    requires { at + room ≤ length text.old }
+    ensures { (at ≤ result) × (result ≤ at + room) × (take result text.new ≡ take at text.old ++ text_of (resume_request m words.entry)) }
 {
-    let NextPosition::Is(position, c0) = next_position(s, c) else {
-        return error(text, at);
-    };
-    let NextKind::Is(k, c1) = next_kind(s, c0) else {
-        return error(text, at);
-    };
-    calculate(m, How::From(position), k, s, c1, text, at)
+    match next_from(&mut words) {
+        Some((how, k)) => calculate(m, how, k, words, text, at),
+        None => error(text, at),
+    }
 }

@@ -24,6 +24,7 @@ pub struct Last {
 }
 
 // A portion for each budget.
+#[tactic(auto, using(crate::proofs::make::Laws::portion_on, crate::proofs::make::Laws::portions_end))]
 fn portions<'a>(
     from: Answer,
     c: Calculation,
@@ -44,22 +45,38 @@ fn portions<'a>(
     ws: &mut [f64],
     out: &mut [f64],
 ) -> Last
-    requires { (length budgets.now ≤ 4096) × (length counts.old ≡ 4096) }
-    ensures { (made_by result counts.new ws.new out.new ≡ in_portions (work_by c n parents.now kinds.now origins.now axes.now links.now rotors.now (inputs_by q.now qd.now forces.now loaded.now loads.now)) budgets.now (from, ws.old, out.old)) × (result.counts ≤ length counts.new) × (length counts.new ≡ length counts.old) }
+    requires few { length budgets.now ≤ 4096 }
+    requires room { length counts.old ≡ 4096 }
+    ensures made { made_by result counts.new ws.new out.new ≡ in_portions (work_by c n parents.now kinds.now origins.now axes.now links.now rotors.now (inputs_by q.now qd.now forces.now loaded.now loads.now)) budgets.now (from, ws.old, out.old) }
+    ensures within { result.counts ≤ length counts.new }
 {
     let mut answer = from;
-    let mut k = 0;
-    while k < budgets.len() {
-        let position = answer.position;
-        let budget = budgets[k] as usize;
+    for (k, budget) in budgets.iter().enumerate() {
         answer = dynamics::portion(
-            position, c, n, parents, kinds, origins, axes, links, rotors, q, qd, forces, loaded,
-            loads, ws, out, budget,
+            answer.position,
+            c,
+            n,
+            parents,
+            kinds,
+            origins,
+            axes,
+            links,
+            rotors,
+            q,
+            qd,
+            forces,
+            loaded,
+            loads,
+            ws,
+            out,
+            *budget as usize,
         );
         counts[k] = answer.visits as u64;
-        k += 1;
     }
-    Last { counts: k, answer }
+    Last {
+        counts: budgets.len(),
+        answer,
+    }
 }
 
 // A start, and where that is not refused a portion for each budget.
@@ -82,14 +99,15 @@ fn divided<'a>(
     ws: &mut [f64],
     out: &mut [f64],
 ) -> Last
-    requires { (length budgets.now ≤ 4096) × (length counts.old ≡ 4096) }
-    ensures { (made_by result counts.new ws.new out.new ≡ begun_in (work_by c n parents.now kinds.now origins.now axes.now links.now rotors.now (inputs_by q.now qd.now forces.now loaded.now loads.now)) budgets.now (start_of (work_by c n parents.now kinds.now origins.now axes.now links.now rotors.now (inputs_by q.now qd.now forces.now loaded.now loads.now)) ws.old out.old)) × (result.counts ≤ length counts.new) × (length counts.new ≡ length counts.old) }
+    requires few { length budgets.now ≤ 4096 }
+    requires room { length counts.old ≡ 4096 }
+    ensures made { made_by result counts.new ws.new out.new ≡ begun_in (work_by c n parents.now kinds.now origins.now axes.now links.now rotors.now (inputs_by q.now qd.now forces.now loaded.now loads.now)) budgets.now (start_of (work_by c n parents.now kinds.now origins.now axes.now links.now rotors.now (inputs_by q.now qd.now forces.now loaded.now loads.now)) ws.old out.old) }
+    ensures within { result.counts ≤ length counts.new }
 {
     let begun = dynamics::start(
         c, n, parents, kinds, origins, axes, links, rotors, q, qd, forces, loaded, loads, ws, out,
     );
-    let position = begun.position;
-    if position.closed {
+    if begun.position.closed {
         return Last {
             counts: 0,
             answer: begun,
@@ -102,6 +120,7 @@ fn divided<'a>(
 }
 
 // Where no budget is given, the undivided call; else a start and its portions, apart, so that the undivided call copies the model once.
+#[tactic(auto, using(crate::proofs::make::Laws::once_whole, crate::proofs::make::Laws::once_begun, crate::proofs::make::Laws::first_count))]
 fn once<'a>(
     c: Calculation,
     n: usize,
@@ -121,10 +140,12 @@ fn once<'a>(
     ws: &mut [f64],
     out: &mut [f64],
 ) -> Last
-    requires { (length budgets.now ≤ 4096) × (length counts.old ≡ 4096) }
-    ensures { (made_by result counts.new ws.new out.new ≡ once_of (work_by c n parents.now kinds.now origins.now axes.now links.now rotors.now (inputs_by q.now qd.now forces.now loaded.now loads.now)) budgets.now ws.old out.old) × (result.counts ≤ length counts.new) × (length counts.new ≡ length counts.old) }
+    requires few { length budgets.now ≤ 4096 }
+    requires room { length counts.old ≡ 4096 }
+    ensures made { made_by result counts.new ws.new out.new ≡ once_of (work_by c n parents.now kinds.now origins.now axes.now links.now rotors.now (inputs_by q.now qd.now forces.now loaded.now loads.now)) budgets.now ws.old out.old }
+    ensures within { result.counts ≤ length counts.new }
 {
-    if budgets.len() == 0 {
+    if budgets.is_empty() {
         let answer = dynamics::whole(
             c, n, parents, kinds, origins, axes, links, rotors, q, qd, forces, loaded, loads, ws,
             out,
@@ -138,6 +159,7 @@ fn once<'a>(
     )
 }
 
+#[tactic(auto, using(crate::proofs::make::Laws::again_on, crate::proofs::make::Laws::again_end), unfolding(crate::specs::Make::times_of))]
 fn times<'a>(
     count: u64,
     c: Calculation,
@@ -158,20 +180,20 @@ fn times<'a>(
     ws: &mut [f64],
     out: &mut [f64],
 ) -> Last
-    requires { (length budgets.now ≤ 4096) × (length counts.old ≡ 4096) }
-    ensures { (made_by result counts.new ws.new out.new ≡ times_of (work_by c n parents.now kinds.now origins.now axes.now links.now rotors.now (inputs_by q.now qd.now forces.now loaded.now loads.now)) budgets.now count ws.old out.old) × (result.counts ≤ length counts.new) × (length counts.new ≡ length counts.old) }
+    requires few { length budgets.now ≤ 4096 }
+    requires room { length counts.old ≡ 4096 }
+    ensures made { made_by result counts.new ws.new out.new ≡ times_of (work_by c n parents.now kinds.now origins.now axes.now links.now rotors.now (inputs_by q.now qd.now forces.now loaded.now loads.now)) budgets.now count ws.old out.old }
+    ensures within { result.counts ≤ length counts.new }
 {
     let mut last = once(
         c, n, parents, kinds, origins, axes, links, rotors, q, qd, forces, loaded, loads, budgets,
         counts, ws, out,
     );
-    let mut left = count;
-    while 1 < left {
+    for _ in 1..count {
         last = once(
             c, n, parents, kinds, origins, axes, links, rotors, q, qd, forces, loaded, loads,
             budgets, counts, ws, out,
         );
-        left -= 1;
     }
     last
 }
@@ -196,8 +218,11 @@ pub fn make<'a>(
     ws: &mut [f64],
     out: &mut [f64],
 ) -> Last
-    requires { (length budgets.now ≤ 4096) × (length counts.old ≡ 4096) }
-    ensures { (made_by result counts.new ws.new out.new ≡ made_of how (work_by c n parents.now kinds.now origins.now axes.now links.now rotors.now (inputs_by q.now qd.now forces.now loaded.now loads.now)) budgets.now ws.old out.old) × (result.counts ≤ length counts.new) × (length counts.new ≡ length counts.old) }
+    requires few { length budgets.now ≤ 4096 }
+    requires room { length counts.old ≡ 4096 }
+    ensures made { made_by result counts.new ws.new out.new ≡ made_of how (work_by c n parents.now kinds.now origins.now axes.now links.now rotors.now (inputs_by q.now qd.now forces.now loaded.now loads.now)) budgets.now ws.old out.old }
+    ensures within { result.counts ≤ length counts.new }
+    ensures kept { length counts.new ≡ length counts.old }
 {
     match how {
         How::Times(count) => times(

@@ -4,9 +4,9 @@ use mathlib.Core.Path.{◌≡◌}
 use Prim.Native.Nat.{ℕ}
 use lib.ListN.{length}
 use lib.Ieee.{Float}
-use Rattle.refusals.specs.declared.Place.{Place}
-use Rattle.refusals.specs.declared.Verdict.{Verdict}
-use Rattle.refusals.specs.declared.Verdict.TheVariants.{Fine, Refused}
+use Rattle.std.specs.Prelude.{Err}
+use Rattle.refusals.specs.Refusals.{Verdict, fine}
+use Rattle.refusals.specs.declared.Refusal.{Refusal}
 use Rattle.slots.specs.Slots.{cleared}
 use Rattle.calls.specs.Position.{Work, Result, visits_of, fresh, shut, begun_at, refused_at, ran, checks_of, start_of, portion_of, whole_of}
 use Rattle.calls.specs.declared.position.Answer.{Answer}
@@ -15,7 +15,7 @@ use Rattle.calls.specs.declared.position.Position.{Position}
 module _ (w : Work) (ws out : List Float) where
   -- what the checks to 22 said
   module _ {v : Verdict} (ev : v ≡ w.inputs (length ws) (length out)) where
-    module _ {number : ℕ} {i : Place} {p : Position} {t : Answer} (h : v ≡ Refused number i) (ep : p ≡ shut w) (et : t ≡ refused_at p number i) where
+    module _ {r : Refusal} {p : Position} {t : Answer} (h : v ≡ Err r) (ep : p ≡ shut w) (et : t ≡ refused_at p r) where
       pub start-refused : (t, ws, out) ≡ start_of w ws out
       unfolding start_of
       start-refused = rw (← ev, h, et, ep)
@@ -24,7 +24,7 @@ module _ (w : Work) (ws out : List Float) where
       unfolding whole_of
       whole-refused = rw (← ev, h, et, ep)
 
-    module _ {p : Position} {ws₁ : List Float} (h : v ≡ Fine) (ep : p ≡ fresh w) (ew : ws₁ ≡ cleared ws) where
+    module _ {p : Position} {ws₁ : List Float} (h : v ≡ fine) (ep : p ≡ fresh w) (ew : ws₁ ≡ cleared ws) where
       pub start_fine : {t : Answer} → t ≡ begun_at p → (t, ws₁, out) ≡ start_of w ws out
       unfolding start_of
       start_fine et = rw (← ev, h, et, ep, ew)
@@ -35,10 +35,10 @@ module _ (w : Work) (ws out : List Float) where
 
   -- and with them 23 and 24
   module _ {v : Verdict} (p : Position) (ev : v ≡ checks_of w p (length ws) (length out)) where
-    pub portion-refused : {number : ℕ} {i : Place} {t : Answer} (budget : ℕ) → v ≡ Refused number i → t ≡ refused_at p number i → (t, ws, out) ≡ portion_of w budget p ws out
+    pub portion-refused : {r : Refusal} {t : Answer} (budget : ℕ) → v ≡ Err r → t ≡ refused_at p r → (t, ws, out) ≡ portion_of w budget p ws out
     unfolding portion_of
     portion-refused budget h et = rw (← ev, h, et)
 
-    pub portion-fine : {r : Result} (budget : ℕ) → v ≡ Fine → r ≡ ran w budget p ws out → r ≡ portion_of w budget p ws out
+    pub portion-fine : {r : Result} (budget : ℕ) → v ≡ fine → r ≡ ran w budget p ws out → r ≡ portion_of w budget p ws out
     unfolding portion_of
     portion-fine budget h er = rw (← ev, h) er

@@ -4,7 +4,7 @@ use mathlib.Core.List.{List}
 use mathlib.Core.Path.{◌≡◌, refl}
 use Prim.Native.Nat.{ℕ, ◌+◌, ◌≤◌}
 use native.Mathlib.Omega.{arith}
-use Rattle.refusals.specs.declared.Verdict.TheVariants.{Fine}
+use Rattle.refusals.specs.Refusals.{fine}
 use Rattle.arm.specs.Model.{Good}
 use Rattle.arm.specs.Topology.{actives_of, active_numbers}
 use Rattle.arm.proofs.topology.Counts.{actives-le}
@@ -37,7 +37,7 @@ few-actives n parents kinds good e = (good.tree.few, omega (arith, e, actives-le
 
 -- a position that was judged, and a fresh one, have a visit left
 module _ (floating : Bool) (n a : ℕ) (plan : Plan) (p : Position) (e : plan ≡ plan_by floating n a) where
-  pub within-judged : (matrix : Bool) → position_verdict matrix floating n a p ≡ Fine → Within matrix plan p
+  pub within-judged : (matrix : Bool) → position_verdict matrix floating n a p ≡ fine → Within matrix plan p
   unfolding plan_by visits_of
   within-judged true v = rw e (λ c. let h = (still_open true floating n a p v).1 in omega arith)
   within-judged false v = rw e (λ c. let h = (still_open false floating n a p v).1 in omega arith)

@@ -6,10 +6,9 @@ use Prim.Native.Nat.{ℕ, zero, suc, ◌+◌}
 use native.Mathlib.Omega.{arith}
 use lib.ListN.{length}
 use lib.Ieee.{Float}
-use Rattle.refusals.specs.declared.Place.{Place}
-use Rattle.refusals.specs.declared.Verdict.{Verdict}
-use Rattle.refusals.specs.declared.Verdict.TheVariants.{Fine}
-use Rattle.refusals.specs.declared.Verdict.TheVariants as verdict
+use Rattle.std.specs.Prelude.{Ok, Err}
+use Rattle.refusals.specs.Refusals.{Verdict, fine}
+use Rattle.refusals.specs.declared.Refusal.{Refusal}
 use Rattle.slots.specs.Slots.{cleared, part_of}
 use Rattle.calls.specs.Position.{Work, State, visits_of, fresh, shut, ended, advanced_by, closing, landed, step_of, iterate, opening, answer_by, refused_at, ran, unless, whole_of}
 use Rattle.calls.specs.declared.position.Outcome.{Outcome}
@@ -20,22 +19,22 @@ is_open : (o : Outcome) → ended o ≡ false → o ≡ Open
 unfolding ended
 is_open Open e = refl
 is_open Accepted e = absurd (true≢false e)
-is_open (Refused number i) e = absurd (true≢false e)
+is_open (Refused r) e = absurd (true≢false e)
 
 open-accepts : Open ≡ Accepted → ⊥
 open-accepts e = let z : ◌≡◌ {A = ℕ} 0 1 = cc in omega arith
 
-refused-accepts : {number : ℕ} {i : Place} → Refused number i ≡ Accepted → ⊥
+refused-accepts : {r : Refusal} → Refused r ≡ Accepted → ⊥
 refused-accepts e = let z : ◌≡◌ {A = ℕ} 0 1 = cc in omega arith
 
 -- a call that accepts has passed its checks
-pub accepted-fine : (w : Work) (ws out : List Float) → (whole_of w ws out).0.outcome ≡ Accepted → w.inputs (length ws) (length out) ≡ Fine
+pub accepted-fine : (w : Work) (ws out : List Float) → (whole_of w ws out).0.outcome ≡ Accepted → w.inputs (length ws) (length out) ≡ fine
 unfolding whole_of refused_at
 accepted-fine w ws out = go (w.inputs (length ws) (length out))
   where
-    go : (v : Verdict) → (unless v (shut w) ws out (ran w (visits_of w.matrix w.n w.a) (fresh w) (cleared ws) out)).0.outcome ≡ Accepted → v ≡ Fine
-    go Fine e = refl
-    go (verdict.Refused number i) e = absurd (refused-accepts e)
+    go : (v : Verdict) → (unless v (shut w) ws out (ran w (visits_of w.matrix w.n w.a) (fresh w) (cleared ws) out)).0.outcome ≡ Accepted → v ≡ fine
+    go (Ok u) e = refl
+    go (Err r) e = absurd (refused-accepts e)
 
 -- two lists of so many numbers that stood from a place on in two workspaces
 pub record Written (R : List Float → List Float → Type 0) (from from' n n' : ℕ) (a b : List Float) : Type 0 where

@@ -39,7 +39,7 @@ module _ {w : Work} {table : Table} (tabled : Tabled w table) (i : ℕ) where
           → (visits (landed w.results s e) ≡ visits s + 1) × (get_or (landed w.results s e).1 i nan ≡ get_or s.1 i nan)
       go (Open, ws) g o = (refl, g)
       go (Accepted, ws) g o = absurd (true≢false o)
-      go (Refused number p, ws) g o = absurd (true≢false o)
+      go (Refused r, ws) g o = absurd (true≢false o)
 
   -- visits in a row that do not set it
   run-stays : (j k : ℕ) (s : State) → visits s ≡ k → Rests table i k (k + j) → closed (iterate (step_of w) j s) ≡ false
@@ -90,7 +90,7 @@ module _ {w : Work} {table : Table} (sound : Sound w) (tabled : Tabled w table) 
       land : (e : Outcome × List Float) → Zero i e.1 → Zero i (landed w.results s e).1
       land (Open, ws) h = h
       land (Accepted, ws) h = zero-cleared i ws h.0
-      land (Refused number p, ws) h = zero-cleared i ws h.0
+      land (Refused r, ws) h = zero-cleared i ws h.0
 
       made : Zero i (w.visit (visits s) s.1).1
       made = (rw (sound.kept (visits s) s.1) z.0, (tabled.sets (visits s) s.1).kept i (clear (visits s)) ∙ z.1)

@@ -10,10 +10,9 @@ use borrow.Author.Tests.{eq-eqb, lt-leb}
 use lib.ListN.{length, drop, take-append-drop}
 use lib.Seq.{drop-drop}
 use lib.Ieee.{Float}
-use Rattle.refusals.specs.Refusals.{plain_of, or_else}
-use Rattle.refusals.specs.declared.Place.{Place}
-use Rattle.refusals.specs.declared.Verdict.{Verdict}
-use Rattle.refusals.specs.declared.Verdict.TheVariants.{Fine, Refused}
+use Rattle.std.specs.Prelude.{Ok, Err}
+use Rattle.refusals.specs.Refusals.{Verdict, fine, plain_of, or_else}
+use Rattle.refusals.specs.declared.Refusal.{Refusal}
 use Rattle.refusals.proofs.Verdicts.{both-fine}
 use Rattle.slots.specs.Slots.{cleared}
 use Rattle.slots.proofs.Lengths.{length-cleared}
@@ -80,7 +79,7 @@ module _ (w : Work) (sound : Sound w) where
         more = ⊎_elim (λ e. absurd (true≢false (sym (f e)))) (λ e. omega (arith, same)) last;
       })
       go (Accepted, ws) g f h = inl (record { closes = refl; accepted = λ _. ⊎_elim (λ e. e) (λ e. absurd (h e refl)) last })
-      go (outcome.Refused number i, ws) g f h = inl (record { closes = refl; accepted = λ e. let z : ◌≡◌ {A = ℕ} 0 1 = cc in absurd (omega arith) })
+      go (outcome.Refused r, ws) g f h = inl (record { closes = refl; accepted = λ e. let z : ◌≡◌ {A = ℕ} 0 1 = cc in absurd (omega arith) })
 
   -- so many visits end closed, or at such a state
   run_at : (j : ℕ) (s : State) (k l m : ℕ) → At s k l m → Ended (iterate (step_of w) j s) ⊎ At (iterate (step_of w) j s) (k + j) l m
@@ -92,24 +91,24 @@ module _ (w : Work) (sound : Sound w) where
       (λ u. let e : k + suc j ≡ k + 1 + j = omega arith in rw e (run_at j (step_of w s) (k + 1) l m u))
       (step-at s k l m t)
 
-  module _ (l m : ℕ) (fine : w.inputs l m ≡ Fine) where
+  module _ (l m : ℕ) (passed : w.inputs l m ≡ fine) where
     -- the checks pass at an open state, so a portion runs from it
-    judged-open : (k : ℕ) → k < total → position_verdict w.matrix w.floating w.n w.a (open_at k) ≡ Fine
+    judged-open : (k : ℕ) → k < total → position_verdict w.matrix w.floating w.n w.a (open_at k) ≡ fine
     unfolding position_verdict plain_of or_else
     judged-open k h = simp (beq-self w.matrix, beq-self w.floating, eq-eqb w.n w.n refl, eq-eqb w.a w.a refl, lt-leb total k h)
 
     portion-open : (b : ℕ) (s : State) (k : ℕ) → At s k l m → portion_of w b s.0.position s.1 s.2 ≡ ran w b (open_at k) s.1 s.2
     unfolding portion_of or_else
-    portion-open b s k t = rw (t.place, t.room, t.output, fine, judged-open k t.more)
+    portion-open b s k t = rw (t.place, t.room, t.output, passed, judged-open k t.more)
 
 -- ---- a refused call hands everything back
 
 abbrev Untouched : Position → List Float → List Float → Result → Type 0
-Untouched p ws out r = (number : ℕ) × (i : Place) × (r ≡ (refused_at p number i, ws, out))
+Untouched p ws out r = (e : Refusal) × (r ≡ (refused_at p e, ws, out))
 
-back : (v : Verdict) (p : Position) (ws out : List Float) (r : Result) → (v ≡ Fine → ⊥) → Untouched p ws out (unless v p ws out r)
-back Fine p ws out r f = absurd (f refl)
-back (Refused number i) p ws out r f = (number, i, refl)
+back : (v : Verdict) (p : Position) (ws out : List Float) (r : Result) → (v ≡ fine → ⊥) → Untouched p ws out (unless v p ws out r)
+back (Ok u) p ws out r f = absurd (f refl)
+back (Err e) p ws out r f = (e, refl)
 
 -- what was lent is where it was
 lent_back : (l : Lent) (s : List Float) → back_in l s (lent_of l s) ≡ s
@@ -117,11 +116,11 @@ unfolding lent_of back_in
 lent_back (part from count) s = rw (← drop-drop count from s, take-append-drop count (drop from s), take-append-drop from s)
 lent_back (own t) s = refl
 
-aside-back : (v : Verdict) (p : Position) (ws out : Lent) (r x : Result) → (v ≡ Fine → ⊥)
+aside-back : (v : Verdict) (p : Position) (ws out : Lent) (r x : Result) → (v ≡ fine → ⊥)
     → Untouched r.0.position r.1 r.2 (aside (λ s t. unless v p s t x) ws out r)
 unfolding refused_at
-aside-back Fine p ws out r x f = absurd (f refl)
-aside-back (Refused number i) p ws out r x f = (number, i, rw (lent_back ws r.1, lent_back out r.2))
+aside-back (Ok u) p ws out r x f = absurd (f refl)
+aside-back (Err e) p ws out r x f = (e, rw (lent_back ws r.1, lent_back out r.2))
 
 module _ (w : Work) where
   -- a portion on a closed position is refused
@@ -142,7 +141,7 @@ module _ (w : Work) where
 -- and on a closed position nothing is added
 added-closed : (r s : Result) → r.0.position.closed ≡ true → Untouched r.0.position r.1 r.2 s → added r s ≡ r
 unfolding refused_at
-added-closed r s c (number, i, e) = rw (e, c, add-zero)
+added-closed r s c (x, e) = rw (e, c, add-zero)
 
 -- ---- calls in a row
 
@@ -157,7 +156,7 @@ closed-alike t = ap (λ (y : Position × List Float × List Float). y.0.closed) 
 
 refused-stands : (r x : Result) (s : State) → Stands r s → Untouched r.0.position r.1 r.2 x → Stands (added r x) s
 unfolding refused_at
-refused-stands r x s t (number, i, e) = record {
+refused-stands r x s t (y, e) = record {
   hands = ap handed e ∙ t.hands;
   count = omega (arith, t.count, ap (λ (y : Result). y.0.visits) e);
   outcome = λ c. rw (closed-alike t ∙ c) (t.outcome c);
@@ -167,7 +166,7 @@ refused-stands r x s t (number, i, e) = record {
 stands-closed : (r : Result) (s : State) → Stands r s → closed s ≡ true → r ≡ (record { position = s.0.position; outcome = s.0.outcome; visits = visits s }, s.1, s.2)
 stands-closed r s t c = λ i. (record { position = (t.hands i).0; outcome = t.outcome c i; visits = t.count i }, (t.hands i).1, (t.hands i).2)
 
-module _ (w : Work) (sound : Sound w) (l m : ℕ) (fine : w.inputs l m ≡ Fine) where
+module _ (w : Work) (sound : Sound w) (l m : ℕ) (passed : w.inputs l m ≡ fine) where
   -- where a run stands after k visits, or ended before
   abbrev Reached : State → ℕ → Type 0
   Reached s k = Ended w sound s ⊎ At w sound s k l m
@@ -179,7 +178,7 @@ module _ (w : Work) (sound : Sound w) (l m : ℕ) (fine : w.inputs l m ≡ Fine)
         rw (run-closed w.visit w.results b s c.closes)
         (refused-stands r _ s t (portion-closed w b r.0.position r.1 r.2 (closed-alike t ∙ c.closes)))
     portion-stands b (inr u) =
-        rw (ap (λ (y : Position × List Float × List Float). portion_of w b y.0 y.1 y.2) t.hands ∙ portion-open w sound l m fine b s k u ∙ ap from (sym u.place))
+        rw (ap (λ (y : Position × List Float × List Float). portion_of w b y.0 y.1 y.2) t.hands ∙ portion-open w sound l m passed b s k u ∙ ap from (sym u.place))
         (record {
           hands = refl;
           count = omega (arith, t.count, run-forth w.visit w.results b s);
@@ -197,11 +196,11 @@ module _ (w : Work) (sound : Sound w) (l m : ℕ) (fine : w.inputs l m ≡ Fine)
         (λ u. (0, refused-stands r (answered w c r) s t u))
         (call-refused w c r h)
 
-module _ (w : Work) (sound : Sound w) (ws out : List Float) (fine : w.inputs (length ws) (length out) ≡ Fine) where
+module _ (w : Work) (sound : Sound w) (ws out : List Float) (passed : w.inputs (length ws) (length out) ≡ fine) where
   abbrev first : State
   first = (opening (fresh w), cleared ws, out)
 
-  reached : (j : ℕ) → Reached w sound (length ws) (length out) fine (after w j ws out) j
+  reached : (j : ℕ) → Reached w sound (length ws) (length out) passed (after w j ws out) j
   reached j = ⊎_elim (λ c. inl c) (λ u. let e : 0 + j ≡ j = omega arith in inr (rw e at u)) (run_at w sound j first 0 (length ws) (length out) first-at)
     where
       first-at : At w sound first 0 (length ws) (length out)
@@ -211,7 +210,7 @@ module _ (w : Work) (sound : Sound w) (ws out : List Float) (fine : w.inputs (le
   unfolding calls_from RefusesAll
   calls-stand [] r j h t = (j, t)
   calls-stand (c ∷ more) r j h t =
-      let d = call-stands w sound (length ws) (length out) fine r (after w j ws out) j t c h.0 (reached j) in
+      let d = call-stands w sound (length ws) (length out) passed r (after w j ws out) j t c h.0 (reached j) in
       calls-stand more (added r (answered w c r)) (j + d.0) h.1 (rw (iterate-add (step_of w) j d.0 first) d.1)
 
   -- the undivided call ends closed
@@ -229,7 +228,7 @@ module _ (w : Work) (sound : Sound w) (ws out : List Float) (fine : w.inputs (le
       ended_so = rw end at t
 
       same : r ≡ whole_of w ws out
-      same = stands-closed r (after w (total w sound) ws out) ended_so whole-ended.closes ∙ rw (fine, sub-zero)
+      same = stands-closed r (after w (total w sound) ws out) ended_so whole-ended.closes ∙ rw (passed, sub-zero)
 
       before : (k : ℕ) → k < r.0.visits → closed (after w k ws out) ≡ false
       before k h = go (closed (after w k ws out)) refl
@@ -251,7 +250,7 @@ module _ (w : Work) (sound : Sound w) (ws out : List Float) (fine : w.inputs (le
 
   stands : (calls : List Call) → RefusesAll w calls (start_of w ws out) → (j : ℕ) × Stands (divided_of w calls ws out) (after w j ws out)
   unfolding start_of begun_at iterate
-  stands calls h = calls-stand calls (start_of w ws out) 0 h (rw fine (record { hands = refl; count = refl; outcome = λ b. absurd (true≢false (sym b)) }))
+  stands calls h = calls-stand calls (start_of w ws out) 0 h (rw passed (record { hands = refl; count = refl; outcome = λ b. absurd (true≢false (sym b)) }))
 
   started-undivided : (calls : List Call) → RefusesAll w calls (start_of w ws out) → (divided_of w calls ws out).0.position.closed ≡ true → Undivided w ws out (divided_of w calls ws out)
   started-undivided calls h c = let d = stands calls h in ends-undivided (divided_of w calls ws out) d.0 d.1 c
@@ -274,9 +273,9 @@ closed-stays w (d ∷ more) r c h =
     let e = added-closed r (answered w d r) c (⊎_elim (λ (p : (b : ℕ) × (d ≡ portion b)). rw p.1 (portion-closed w p.0 r.0.position r.1 r.2 c)) (λ u. u) (call-refused w d r h.0)) in
     ap (calls_from w more) e ∙ closed-stays w more r c (rw e at h.1)
 
-refused-undivided : (w : Work) (ws out : List Float) (number : ℕ) (i : Place) → w.inputs (length ws) (length out) ≡ Refused number i → Undivided w ws out (start_of w ws out)
+refused-undivided : (w : Work) (ws out : List Float) (r : Refusal) → w.inputs (length ws) (length out) ≡ Err r → Undivided w ws out (start_of w ws out)
 unfolding start_of whole_of refused_at
-refused-undivided w ws out number i e =
+refused-undivided w ws out r e =
     rw e (record { same = rw e; before = λ k h. absurd (omega arith); closes = λ h. absurd (omega arith); accepted = λ a. let z : ◌≡◌ {A = ℕ} 0 1 = cc in absurd (omega arith) })
 
 -- DEMAND 3: once the position is closed, portions of any budgets, with any refused calls between them, have answered together what the undivided
@@ -287,5 +286,5 @@ unfolding start_of refused_at
 undivided w sound ws out calls h c = go (w.inputs (length ws) (length out)) refl
   where
     go : (v : Verdict) → w.inputs (length ws) (length out) ≡ v → Undivided w ws out (divided_of w calls ws out)
-    go Fine e = started-undivided w sound ws out e calls h c
-    go (Refused number i) e = rw (closed-stays w calls (start_of w ws out) (rw e) h) (refused-undivided w ws out number i e)
+    go (Ok u) e = started-undivided w sound ws out e calls h c
+    go (Err r) e = rw (closed-stays w calls (start_of w ws out) (rw e) h) (refused-undivided w ws out r e)

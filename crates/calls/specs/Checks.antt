@@ -3,8 +3,7 @@ use Rattle.std.specs.Prelude.{Bool, not, ◌&&◌, ◌||◌, List, [], ◌∷◌
 use Rattle.numbers.specs.Double.{finite, all_finite}
 use Rattle.half_turn.specs.HalfTurn.{in_range}
 use Rattle.numbers.specs.declared.quaternion.Quaternion.{Quaternion}
-use Rattle.refusals.specs.Refusals.{lowest, named_of, plain_of, or_else}
-use Rattle.refusals.specs.declared.Verdict.{Verdict}
+use Rattle.refusals.specs.Refusals.{Verdict, lowest, named_of, plain_of, or_else}
 use Rattle.arm.specs.Joint.{not_unit}
 use Rattle.arm.specs.Model.{kind_of}
 use Rattle.arm.specs.Topology.{actives_of, value_of}

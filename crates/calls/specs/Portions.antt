@@ -1,8 +1,7 @@
 -- A calculation divided into portions, with refused calls between them (document 01, "Visits"). Definitions only.
 use Rattle.std.specs.Prelude.{false, true, cond, List, [], ◌∷◌, ◌++◌, ◌≡◌, ℕ, ◌+◌, ◌<◌, length, take, drop, Float}
 use Prim.{Unit}
-use Rattle.refusals.specs.declared.Verdict.{Verdict}
-use Rattle.refusals.specs.declared.Verdict.TheVariants.{Fine}
+use Rattle.refusals.specs.Refusals.{Verdict, fine}
 use Rattle.slots.specs.Slots.{cleared}
 use Rattle.calls.specs.Position.{Work, State, Result, visits_of, fresh, ended, step_of, iterate, opening, checks_of, start_of, portion_of, whole_of}
 use Rattle.calls.specs.declared.position.Outcome.TheVariants.{Accepted}
@@ -76,7 +75,7 @@ divided_of w calls ws out = calls_from w calls (start_of w ws out)
 
 -- a check refuses the lengths of the buffers lent
 abbrev pub Barred : (ℕ → ℕ → Verdict) → Lent → Lent → Result → Type 0
-Barred check ws out r = check (length (lent_of ws r.1)) (length (lent_of out r.2)) ≡ Fine → ⊥
+Barred check ws out r = check (length (lent_of ws r.1)) (length (lent_of out r.2)) ≡ fine → ⊥
 
 -- 9 to 24 refuse a call that is not a portion of the calculation on what is in hand
 unfoldable pub Refuses : Call → Result → Type 0

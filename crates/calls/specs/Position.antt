@@ -1,11 +1,8 @@
 -- A calculation in visits: where it stands, its portions, how it closes (document 01, "Visits"). Definitions only.
-use Rattle.std.specs.Prelude.{Bool, true, false, not, cond, ◌&&◌, ◌||◌, List, ℕ, zero, suc, ◌+◌, ◌-◌, eqb, leb, length, Float}
+use Rattle.std.specs.Prelude.{Bool, true, false, not, cond, ◌&&◌, ◌||◌, Ok, Err, List, ℕ, zero, suc, ◌+◌, ◌-◌, eqb, leb, length, Float}
 use Rattle.std.specs.Bool.{beq}
-use Rattle.refusals.specs.Refusals.{plain_of, or_else}
-use Rattle.refusals.specs.declared.Place.{Place}
-use Rattle.refusals.specs.declared.Verdict.{Verdict}
-use Rattle.refusals.specs.declared.Verdict.TheVariants.{Fine}
-use Rattle.refusals.specs.declared.Verdict.TheVariants as verdict
+use Rattle.refusals.specs.Refusals.{Verdict, plain_of, or_else}
+use Rattle.refusals.specs.declared.Refusal.{Refusal}
 use Rattle.slots.specs.Slots.{cleared, part_of}
 use Rattle.calls.specs.declared.position.Outcome.{Outcome}
 use Rattle.calls.specs.declared.position.Outcome.TheVariants.{Open, Accepted, Refused}
@@ -62,7 +59,7 @@ State = Progress × List Float × List Float
 unfoldable pub ended : Outcome → Bool
 ended Open = false
 ended Accepted = true
-ended (Refused number p) = true
+ended (Refused r) = true
 
 unfoldable pub advanced_by : Position → Outcome → Progress
 advanced_by p o =
@@ -76,7 +73,7 @@ advanced_by p o =
 unfoldable pub closing : ℕ → Outcome → List Float → List Float → List Float × List Float
 closing at Open ws out = (ws, out)
 closing at Accepted ws out = (cleared ws, part_of ws at (length out))
-closing at (Refused number p) ws out = (cleared ws, out)
+closing at (Refused r) ws out = (cleared ws, out)
 
 -- what a visit's outcome and its workspace make of a state
 abbrev pub landed : ℕ → State → Outcome × List Float → State
@@ -108,8 +105,8 @@ answer_by p s = record { position = s.position; outcome = s.outcome; visits = s.
 unfoldable pub begun_at : Position → Answer
 begun_at p = record { position = p; outcome = Open; visits = 0 }
 
-unfoldable pub refused_at : Position → ℕ → Place → Answer
-refused_at p number i = record { position = p; outcome = Refused number i; visits = 0 }
+unfoldable pub refused_at : Position → Refusal → Answer
+refused_at p r = record { position = p; outcome = Refused r; visits = 0 }
 
 -- at most so many visits from a position
 abbrev pub ran : Work → ℕ → Position → List Float → List Float → Result
@@ -117,8 +114,8 @@ ran w budget p ws out = let s = iterate (step_of w) budget (opening p, ws, out) 
 
 -- where the checks refuse, the position comes back, no buffer changes and no visit is made
 abbrev pub unless : Verdict → Position → List Float → List Float → Result → Result
-unless Fine p ws out r = r
-unless (verdict.Refused number i) p ws out r = (refused_at p number i, ws, out)
+unless (Ok u) p ws out r = r
+unless (Err e) p ws out r = (refused_at p e, ws, out)
 
 -- a start makes all checks to 22, makes the workspace +0.0 and gives position 0
 unfoldable pub start_of : Work → List Float → List Float → Result

@@ -7,16 +7,16 @@ ghost use Rattle.calls.specs.Checks.{bad_value, far_turn, values_verdict, turns_
 use arm::{joint, topology};
 use numbers::double;
 use numbers::quaternion::Quaternion;
-use refusals;
-use refusals::{Place, Verdict};
+use refusals::Refusal;
 
 // A length that is not the one asked for.
-pub fn check_length(number: u8, given: usize, wanted: usize) -> Verdict
+pub fn check_length(number: u8, given: usize, wanted: usize) -> Result<(), Refusal>
     ensures { result ≡ plain_of number (not (eqb given wanted)) }
 {
     refusals::plain(number, given != wanted)
 }
 
+#[tactic(auto, unfolding(crate::specs::Checks::bad_value))]
 fn bad_value<'a>(
     kinds: &'a [u8; 32],
     numbers: &'a [u8; 33],
@@ -27,26 +27,24 @@ fn bad_value<'a>(
     requires { (numbers.now ≡ active_numbers kinds.now) × (n ≤ 32) × (j < n) × (length q.now ≡ actives_of kinds.now n) }
     ensures { result ≡ bad_value kinds.now q.now j }
 {
-    let x = topology::value_at(kinds, numbers, q, n, j);
-    !double::is_finite(x)
+    !double::is_finite(topology::value_at(kinds, numbers, q, n, j))
 }
 
 // The lowest joint whose value is not finite.
-fn lowest_bad_value<'a>(kinds: &'a [u8; 32], numbers: &'a [u8; 33], q: &'a [f64], n: usize) -> Place
+fn lowest_bad_value<'a>(
+    kinds: &'a [u8; 32],
+    numbers: &'a [u8; 33],
+    q: &'a [f64],
+    n: usize,
+) -> Option<usize>
     requires { (numbers.now ≡ active_numbers kinds.now) × (n ≤ 32) × (length q.now ≡ actives_of kinds.now n) }
     ensures { result ≡ lowest (bad_value kinds.now q.now) n }
 {
-    let mut j: usize = 0;
-    while j < n {
-        if bad_value(kinds, numbers, q, n, j) {
-            return Place::At(j);
-        }
-        j += 1;
-    }
-    Place::Nothing
+    (0..n).find(|j| bad_value(kinds, numbers, q, n, *j))
 }
 
 // 11 and 12 of the values, 14 and 15 of the speeds: not as many as there are active joints, or one not finite.
+#[tactic(auto, unfolding(crate::specs::Checks::values_verdict, refusals::specs::Refusals::plain_of, refusals::specs::Refusals::or_else))]
 pub fn check_values<'a>(
     miscounted: u8,
     nonfinite: u8,
@@ -55,16 +53,15 @@ pub fn check_values<'a>(
     n: usize,
     a: usize,
     q: &'a [f64],
-) -> Verdict
+) -> Result<(), Refusal>
     requires { (numbers.now ≡ active_numbers kinds.now) × (n ≤ 32) × (a ≡ actives_of kinds.now n) }
     ensures { result ≡ values_verdict miscounted nonfinite kinds.now n q.now }
 {
-    if q.len() != a {
-        return Verdict::Refused(miscounted, Place::Nothing);
-    }
+    check_length(miscounted, q.len(), a)?;
     refusals::named(nonfinite, lowest_bad_value(kinds, numbers, q, n))
 }
 
+#[tactic(auto, unfolding(crate::specs::Checks::far_turn))]
 fn far_turn<'a>(
     kinds: &'a [u8; 32],
     numbers: &'a [u8; 33],
@@ -75,9 +72,7 @@ fn far_turn<'a>(
     requires { (numbers.now ≡ active_numbers kinds.now) × (n ≤ 32) × (j < n) × (length q.now ≡ actives_of kinds.now n) }
     ensures { result ≡ far_turn kinds.now q.now j }
 {
-    let kind = kinds[j];
-    let x = topology::value_at(kinds, numbers, q, n, j);
-    double::both(kind == 0, !half_turn::in_range(x))
+    kinds[j] == 0 && !half_turn::in_range(topology::value_at(kinds, numbers, q, n, j))
 }
 
 // 13: the lowest turn whose value is beyond the limit.
@@ -86,27 +81,17 @@ pub fn check_turns<'a>(
     numbers: &'a [u8; 33],
     n: usize,
     q: &'a [f64],
-) -> Verdict
+) -> Result<(), Refusal>
     requires { (numbers.now ≡ active_numbers kinds.now) × (n ≤ 32) × (length q.now ≡ actives_of kinds.now n) }
     ensures { result ≡ turns_verdict kinds.now n q.now }
 {
-    let mut j: usize = 0;
-    while j < n {
-        if far_turn(kinds, numbers, q, n, j) {
-            return Verdict::Refused(13, Place::At(j));
-        }
-        j += 1;
-    }
-    Verdict::Fine
+    refusals::named(13, (0..n).find(|j| far_turn(kinds, numbers, q, n, *j)))
 }
 
 // Whether a root rotation is not finite, or not of length 1 as in 7.
+#[tactic(auto, unfolding(crate::specs::Checks::bad_rotation))]
 pub fn bad_rotation(r: Quaternion) -> bool
     ensures { result ≡ bad_rotation r }
 {
-    let numbers = [r.w, r.u.x, r.u.y, r.u.z];
-    if !double::all_finite(&numbers) {
-        return true;
-    }
-    joint::not_unit(r)
+    !double::all_finite(&[r.w, r.u.x, r.u.y, r.u.z]) || joint::not_unit(r)
 }

@@ -10,20 +10,15 @@ pub struct Plan {
     pub side: usize,
 }
 
+#[tactic(auto, unfolding(crate::specs::Plan::plan_by))]
 pub fn planned(floating: bool, n: usize, a: usize) -> Plan
     requires { a ≤ 32 }
     ensures { (result ≡ plan_by floating n a) × (result.side ≤ 38) }
 {
-    if floating {
-        return Plan {
-            n,
-            lead: 6,
-            side: 6 + a,
-        };
-    }
+    let lead = if floating { 6 } else { 0 };
     Plan {
         n,
-        lead: 0,
-        side: a,
+        lead,
+        side: lead + a,
     }
 }

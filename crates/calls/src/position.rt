@@ -1,15 +1,14 @@
 // Where a calculation stands, and how it goes on and closes.
-ghost use Rattle.std.specs.Prelude.{◌||◌, ◌≡◌, ◌+◌, ◌≤◌, ◌<◌, length};
+ghost use Rattle.std.specs.Prelude.{◌≡◌, ◌+◌, ◌≤◌, ◌<◌, length};
 ghost use Rattle.calls.specs.Position.{visits_of, fresh_at, shut_at, position_verdict, ended, advanced_by, closing, answer_by, begun_at, refused_at};
 
-use numbers::double;
-use refusals::{Place, Verdict};
+use refusals::Refusal;
 
 #[derive(Clone, Copy)]
 pub enum Outcome {
     Open,
     Accepted,
-    Refused(u8, Place),
+    Refused(Refusal),
 }
 
 // A calculation (the matrix, else forward dynamics) on a root (floating, else fixed) of n joints, of which a are active;
@@ -40,6 +39,7 @@ pub struct Answer {
 }
 
 // The whole count of visits.
+#[tactic(auto, unfolding(crate::specs::Position::visits_of))]
 pub fn visits(matrix: bool, n: usize, a: usize) -> usize
     requires { (n ≤ 32) × (a ≤ 32) }
     ensures { result ≡ visits_of matrix n a }
@@ -50,23 +50,11 @@ pub fn visits(matrix: bool, n: usize, a: usize) -> usize
     n + n + n + 1
 }
 
-fn either(a: bool, b: bool) -> bool
-    ensures { result ≡ (a || b) }
-{
-    if a {
-        return true;
-    }
-    b
-}
-
+#[tactic(auto, unfolding(crate::specs::Position::ended))]
 fn has_ended(o: Outcome) -> bool
     ensures { result ≡ ended o }
 {
-    match o {
-        Outcome::Open => false,
-        Outcome::Accepted => true,
-        Outcome::Refused(_, _) => true,
-    }
+    !matches!(o, Outcome::Open)
 }
 
 impl Position {
@@ -99,53 +87,49 @@ impl Position {
     }
 
     // 23 and 24, for a call of this calculation on this root and model.
-    pub fn judged(self, matrix: bool, floating: bool, n: usize, a: usize) -> Verdict
+    #[tactic(auto, unfolding(crate::specs::Position::position_verdict, refusals::specs::Refusals::plain_of, refusals::specs::Refusals::or_else))]
+    pub fn judged(self, matrix: bool, floating: bool, n: usize, a: usize) -> Result<(), Refusal>
         requires { (n ≤ 32) × (a ≤ 32) }
         ensures { result ≡ position_verdict matrix floating n a self }
     {
-        let other_calculation = either(self.matrix != matrix, self.floating != floating);
-        let other_model = either(self.n != n, self.a != a);
-        let over = double::both(!self.closed, visits(matrix, n, a) <= self.visits);
-        let other = refusals::plain(23, either(other_calculation, other_model));
-        let spent = refusals::plain(23, over);
-        let closed = refusals::plain(24, self.closed);
-        refusals::first(other, refusals::first(spent, closed))
+        let other_calculation = self.matrix != matrix || self.floating != floating;
+        let other_model = self.n != n || self.a != a;
+        refusals::plain(23, other_calculation || other_model)?;
+        refusals::plain(23, !self.closed && visits(matrix, n, a) <= self.visits)?;
+        refusals::plain(24, self.closed)
     }
 
     // After one visit more, which had this outcome.
+    #[tactic(auto, unfolding(crate::specs::Position::advanced_by))]
     pub fn advanced(self, o: Outcome) -> Progress
         requires { self.visits < 1000 }
         ensures { result ≡ advanced_by self o }
     {
-        let position = Position {
-            matrix: self.matrix,
-            floating: self.floating,
-            n: self.n,
-            a: self.a,
-            visits: self.visits + 1,
-            closed: has_ended(o),
-        };
         Progress {
-            position,
+            position: Position {
+                visits: self.visits + 1,
+                closed: has_ended(o),
+                ..self
+            },
             outcome: o,
         }
     }
 
     // How far a call has come that began here.
+    #[tactic(auto, unfolding(crate::specs::Position::answer_by))]
     pub fn answer(self, s: Progress) -> Answer
         requires { self.visits ≤ s.position.visits }
         ensures { result ≡ answer_by self s }
     {
-        let position = s.position;
-        let outcome = s.outcome;
         Answer {
-            position,
-            outcome,
-            visits: position.visits - self.visits,
+            position: s.position,
+            outcome: s.outcome,
+            visits: s.position.visits - self.visits,
         }
     }
 
     // The answer of a start.
+    #[tactic(auto, unfolding(crate::specs::Position::begun_at))]
     pub fn begun(self) -> Answer
         ensures { result ≡ begun_at self }
     {
@@ -157,12 +141,13 @@ impl Position {
     }
 
     // A refusal that made no visit.
-    pub fn refused(self, number: u8, place: Place) -> Answer
-        ensures { result ≡ refused_at self number place }
+    #[tactic(auto, unfolding(crate::specs::Position::refused_at))]
+    pub fn refused(self, refusal: Refusal) -> Answer
+        ensures { result ≡ refused_at self refusal }
     {
         Answer {
             position: self,
-            outcome: Outcome::Refused(number, place),
+            outcome: Outcome::Refused(refusal),
             visits: 0,
         }
     }
@@ -170,6 +155,7 @@ impl Position {
 
 // The buffers after a visit: acceptance writes the whole output from the workspace, where the results wait at `at`;
 // it and a refusal clear the workspace.
+#[tactic(auto, unfolding(crate::specs::Position::closing))]
 pub fn close(o: Outcome, ws: &mut [f64], out: &mut [f64], at: usize)
     requires { at + length out.old ≤ length ws.old }
     ensures { (ws.new, out.new) ≡ closing at o ws.old out.old }
@@ -180,6 +166,6 @@ pub fn close(o: Outcome, ws: &mut [f64], out: &mut [f64], at: usize)
             slots::copy_from(out, ws, at);
             slots::clear(ws);
         }
-        Outcome::Refused(_, _) => slots::clear(ws),
+        Outcome::Refused(_) => slots::clear(ws),
     }
 }

@@ -1,13 +1,11 @@
 -- Cholesky's lower factor by columns, written over the matrix, and solving by it. Definitions only.
-use Rattle.std.specs.Prelude.{List, Bool, true, false, cond, ℕ, zero, suc, ◌+◌, ◌-◌, ◌*◌, get_or, set, Float}
+use Rattle.std.specs.Prelude.{List, Bool, true, false, cond, ℕ, zero, suc, ◌+◌, ◌-◌, ◌*◌, get_or, set, Float, Option, Some, None}
 use Rattle.std.specs.Float.{nan}
 use Rattle.std.specs.Float.Ieee.{lt}
 use Rattle.numbers.specs.Double.{◌⊗◌, ◌⊘◌, 0·0}
 use Rattle.numbers.specs.Sum.{less_to}
 use Rattle.square_root.specs.SquareRoot.{root_of}
 use Rattle.mat6.specs.Mat6.{cell}
-use Rattle.square_root.specs.declared.Root.{Root}
-use Rattle.square_root.specs.declared.Root.TheVariants.{Is, No}
 
 -- ---- the factor: whether every pivot so far was above zero, and the numbers
 
@@ -21,9 +19,9 @@ unfoldable pub below_to : List Float → ℕ → Float → ℕ → List Float
 below_to l j r zero = l
 below_to l j r (suc n) = let m = below_to l j r n in set m ((j + 1 + n) * 6 + j) (less_of m (j + 1 + n) j j ⊘ r)
 
-abbrev pub with_root : List Float → ℕ → Root → Bool × List Float
-with_root l j No = (false, l)
-with_root l j (Is r) = (true, below_to (set l (j * 6 + j) r) j r (5 - j))
+abbrev pub with_root : List Float → ℕ → Option Float → Bool × List Float
+with_root l j None = (false, l)
+with_root l j (Some r) = (true, below_to (set l (j * 6 + j) r) j r (5 - j))
 
 -- column j: a pivot that is not above zero fails
 unfoldable pub factor_column : List Float → ℕ → Bool × List Float

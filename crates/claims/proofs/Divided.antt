@@ -4,7 +4,7 @@ use mathlib.Core.List.{List}
 use mathlib.Core.Path.{◌≡◌}
 use lib.ListN.{length}
 use lib.Ieee.{Float}
-use Rattle.refusals.specs.declared.Verdict.TheVariants.{Fine}
+use Rattle.refusals.specs.Refusals.{fine}
 use Rattle.arm.specs.declared.model.Model.{Model}
 use Rattle.calls.specs.Position.{Work, start_of}
 use Rattle.calls.specs.Portions.{Call, divided_of, RefusesAll, Underway, Undivided}
@@ -18,7 +18,7 @@ module _ (c : Calculation) (m : Model) (i : Inputs) (ws out : List Float) where
   abbrev work : Work
   work = work_of c m i
 
-  pub work-underway : work.inputs (length ws) (length out) ≡ Fine → (calls : List Call) → RefusesAll work calls (start_of work ws out) → Underway work ws out (divided_of work calls ws out)
+  pub work-underway : work.inputs (length ws) (length out) ≡ fine → (calls : List Call) → RefusesAll work calls (start_of work ws out) → Underway work ws out (divided_of work calls ws out)
   work-underway = underway work (sound c m i) ws out
 
   pub work-undivided : (calls : List Call) → RefusesAll work calls (start_of work ws out) → (divided_of work calls ws out).0.position.closed ≡ true → Undivided work ws out (divided_of work calls ws out)

@@ -3,7 +3,8 @@
 use mathlib.Core.List.{List}
 use mathlib.Core.Path.{◌≡◌, sym, ap, ◌∙◌}
 use lib.Ieee.{Float}
-use Rattle.refusals.specs.declared.Place.TheVariants.{Nothing}
+use Rattle.std.specs.Prelude.{None}
+use Rattle.refusals.specs.Refusals.{refusal}
 use Rattle.arm.specs.Model.{bundle}
 use Rattle.arm.specs.declared.model.Model.{Model}
 use Rattle.calls.specs.Position.{Result, whole_of}
@@ -27,7 +28,7 @@ Question = Calculation × Model × List Float × List Float
 
 module _ (mode : Mode) (m m' : Model) (q q' ws out out' : List Float) where
   joined : m ≡ m' → q ≡ q' → out ≡ out' → {x : Result} → x ≡ whole_of (mass_matrix mode m q) ws out → {y : Outcome × List Float} → y ≡ plain_call mode m' q' out'
-      → (x.0.outcome ≡ Refused 10 Nothing → ⊥) → seen x ≡ y
+      → (x.0.outcome ≡ Refused (refusal 10 None) → ⊥) → seen x ≡ y
   joined em eq eo ex ey f =
       ap seen ex
       ∙ same-but-10 mode m q ws out (λ z. f (ap (λ (x : Result). x.0.outcome) ex ∙ ap (λ (s : Outcome × List Float). s.0) z))
@@ -41,7 +42,7 @@ pub engines-agree : SameAnswer {T = Question} {S = Outcome × List Float} whole.
     (λ κs b. (Matrix b.0, bundle b.1.0 b.1.1.0.now b.1.1.1.0.now b.1.1.1.1.0.now b.1.1.1.1.1.0.now b.1.1.1.1.1.1.0.now b.1.1.1.1.1.1.1.0.now, b.1.1.1.1.1.1.1.1.0.now, b.1.1.1.1.1.1.1.1.1.0.now))
     (λ κs r e. (r.outcome, e.1.1.1.1.1.1.1.1.1.1.1.1.1.1.0.now))
     (λ κs r e. (r, e.1.1.1.1.1.1.1.1.1.0.now))
-    (λ s. s.0 ≡ Refused 10 Nothing)
+    (λ s. s.0 ≡ Refused (refusal 10 None))
 engines-agree κs λs a b r q e f asked d h =
     joined b.0 _ _ _ _ _ _ _ (ap (λ (x : Question). x.1) asked) (ap (λ (x : Question). x.2) asked) (ap (λ (x : Question). x.3) asked)
     (d ∙ as-matrix a.0 b.0 _ _ _ _ (ap (λ (x : Question). x.0) asked)) h

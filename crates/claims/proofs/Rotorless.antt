@@ -11,8 +11,7 @@ use lib.Seq.{set-get_or}
 use lib.Ieee.{Float, ne, nan}
 use Rattle.numbers.specs.Double.{0·0}
 use Rattle.numbers.specs.declared.quaternion.Quaternion.{Quaternion}
-use Rattle.refusals.specs.declared.Place.{Place}
-use Rattle.refusals.specs.declared.Place.TheVariants.{At, Nothing}
+use Rattle.std.specs.Prelude.{Option, Some, None}
 use Rattle.spatial.specs.declared.twist.Twist.{Twist}
 use Rattle.spatial.specs.declared.wrench.Wrench.{Wrench}
 use Rattle.arm.specs.Joint.{motion_by, with_rotor}
@@ -88,11 +87,11 @@ module _ (m : Model) (h : NoRotor m) (p : Plan) (n : p.n ≡ m.n) where
   unfolding add_rotor
   none-added row j ws e = let at = place_of p row row in ap (set ws at) (none (rotor_of m.rotors j) (get_or ws at nan) e) ∙ set-get_or ws at nan
 
-  same-found : (r : Quaternion) (found : Place) (ws : List Float) → ((j : ℕ) → found ≡ At j → ne (rotor_of m.rotors j) 0·0 ≡ false)
+  same-found : (r : Quaternion) (found : Option ℕ) (ws : List Float) → ((j : ℕ) → found ≡ Some j → ne (rotor_of m.rotors j) 0·0 ≡ false)
       → column_found p r m.parents m.kinds m.axes m.rotors found ws ≡ bare_column p r m.parents m.kinds m.axes found ws
   unfolding column_found column_visit bare_column
-  same-found r (At j) ws g = rw (none-added _ j _ (g j refl))
-  same-found r Nothing ws g = refl
+  same-found r (Some j) ws g = rw (none-added _ j _ (g j refl))
+  same-found r None ws g = refl
 
   same-column : (r : Quaternion) (k : ℕ) (ws : List Float)
       → column_found p r m.parents m.kinds m.axes m.rotors (active_joint m.kinds p.n k) ws ≡ bare_column p r m.parents m.kinds m.axes (active_joint m.kinds p.n k) ws

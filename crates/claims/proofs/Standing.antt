@@ -11,9 +11,8 @@ use lib.ListN.{length, get_or}
 use lib.Ieee.{Float, nan}
 use Rattle.numbers.specs.Double.{0·0, all_finite}
 use Rattle.numbers.proofs.Tables.{length-tab, get_or-tab}
-use Rattle.refusals.specs.declared.Place.TheVariants.{Nothing}
-use Rattle.refusals.specs.declared.Verdict.{Verdict}
-use Rattle.refusals.specs.declared.Verdict.TheVariants.{Fine, Refused}
+use Rattle.std.specs.Prelude.{None, Ok, Err}
+use Rattle.refusals.specs.Refusals.{Verdict, fine, refusal}
 use Rattle.refusals.proofs.Flags.{neither}
 use Rattle.slots.specs.Slots.{vec3_at}
 use Rattle.slots.proofs.Blocks.{split}
@@ -66,11 +65,11 @@ module _ (mode : Mode) (m : Model) (q out : List Float) where
   abbrev verdict : Verdict
   verdict = plain_verdict (floats mode) (rotation_of mode) m.n m.parents m.kinds q (length out)
 
-  plain-entries : (v : Verdict) (b : Bool) → (unless v out (cond b (Accepted, entries) (outcome.Refused 37 Nothing, out))).0 ≡ Accepted
-      → (v ≡ Fine) × ((unless v out (cond b (Accepted, entries) (outcome.Refused 37 Nothing, out))).1 ≡ entries)
-  plain-entries Fine true z = (refl, refl)
-  plain-entries Fine false z = let y : ◌≡◌ {A = ℕ} 0 1 = cc in absurd (omega arith)
-  plain-entries (Refused number i) b z = let y : ◌≡◌ {A = ℕ} 0 1 = cc in absurd (omega arith)
+  plain-entries : (v : Verdict) (b : Bool) → (unless v out (cond b (Accepted, entries) (outcome.Refused (refusal 37 None), out))).0 ≡ Accepted
+      → (v ≡ fine) × ((unless v out (cond b (Accepted, entries) (outcome.Refused (refusal 37 None), out))).1 ≡ entries)
+  plain-entries (Ok u) true z = (refl, refl)
+  plain-entries (Ok u) false z = let y : ◌≡◌ {A = ℕ} 0 1 = cc in absurd (omega arith)
+  plain-entries (Err r) b z = let y : ◌≡◌ {A = ℕ} 0 1 = cc in absurd (omega arith)
 
   made : (plain_call mode m q out).0 ≡ Accepted → Made mode m q (plain_call mode m q out).1
   unfolding plain_call plain_matrix
@@ -84,7 +83,7 @@ module _ (mode : Mode) (m : Model) (q out : List Float) where
   by-fast : (ws : List Float) {x : Result} → x ≡ whole_of (mass_matrix mode m q) ws out → x.0.outcome ≡ Accepted → Made mode m q x.2
   by-fast ws e a =
       by-plain
-      (ap seen e ∙ same-but-10 mode m q ws out (λ z. let f : Accepted ≡ outcome.Refused 10 Nothing = sym a ∙ ap (λ (y : Result). y.0.outcome) e ∙ ap (λ (y : Outcome × List Float). y.0) z in let y : ◌≡◌ {A = ℕ} 0 1 = cc in omega arith))
+      (ap seen e ∙ same-but-10 mode m q ws out (λ z. let f : Accepted ≡ outcome.Refused (refusal 10 None) = sym a ∙ ap (λ (y : Result). y.0.outcome) e ∙ ap (λ (y : Outcome × List Float). y.0) z in let y : ◌≡◌ {A = ℕ} 0 1 = cc in omega arith))
       a
 
 module _ (mode : Mode) (m : Model) (q matrix : List Float) (a : Made mode m q matrix) (J I : ℕ) (h : J < m.n) (l : I ≤ J) (f : Active m J) (g : Active m I) where
@@ -177,7 +176,7 @@ module _ (mode mode' : Mode) (m m' : Model) (q q' matrix matrix' : List Float) (
       ∙ ap (λ (x : List Float). get_or x t nan) (sym b.written)
 
   -- marks that were not refused are those of the definition
-  made-marks : (floating : Bool) (n : ℕ) (parents kinds : List ℕ) (lent : List Bool) {z : Verdict × List Bool} → z ≡ stands_call floating n parents kinds c lent → z.0 ≡ Fine
+  made-marks : (floating : Bool) (n : ℕ) (parents kinds : List ℕ) (lent : List Bool) {z : Verdict × List Bool} → z ≡ stands_call floating n parents kinds c lent → z.0 ≡ fine
       → z.1 ≡ marks_of (plan_of floating n kinds) kinds (stands_between n parents kinds c)
   unfolding stands_call
   made-marks floating n parents kinds lent e f =
@@ -186,7 +185,7 @@ module _ (mode mode' : Mode) (m m' : Model) (q q' matrix matrix' : List Float) (
 
 -- asked in this order: whether the root floats, n, parents, kinds, what was told
 told-marked : (mode mode' : Mode) (m m' : Model) (q q' matrix matrix' : List Float) (told : Telling) (lent : List Bool) → Made mode m q matrix → Made mode' m' q' matrix'
-    → {z : Verdict × List Bool} → z ≡ stands_call told.0 told.1 told.2 told.3 told.4 lent → Tells mode mode' m told → z.0 ≡ Fine → SameBut told.4 m m' q q'
+    → {z : Verdict × List Bool} → z ≡ stands_call told.0 told.1 told.2 told.3 told.4 lent → Tells mode mode' m told → z.0 ≡ fine → SameBut told.4 m m' q q'
     → (t : ℕ) → t < length z.1 → another z.1 t ≡ true → get_or matrix t nan ≡ get_or matrix' t nan
 told-marked mode mode' m m' q q' matrix matrix' told lent a b {z = z} ez tells v s t h e =
     let root = tells.root.0 ∙ sym tells.root.1 in

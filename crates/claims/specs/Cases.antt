@@ -1,22 +1,15 @@
 -- The twelve small cases of document 01, and of document 02 the masses of item 9, the loads of item 3, the turns of item 6, the rotors of item 11, the plain engine of item 10 and the entries that stand of item 7: what is asked, by the definitions of the calls, and what is to be told. Definitions only.
 -- "Unless said: identity origins and root rotation, fixed root, other numbers zero."
-use Rattle.std.specs.Prelude.{Bool, true, false, cond, List, [], ◌∷◌, ◌++◌, map, ◌≡◌, ℕ, ◌+◌, ◌*◌, length, replicate, Float}
+use Rattle.std.specs.Prelude.{Bool, true, false, cond, List, [], ◌∷◌, ◌++◌, map, ◌≡◌, ℕ, ◌+◌, ◌*◌, length, replicate, Float, Option, Some, None, Ok, Err}
 use Rattle.std.specs.Float.{binary64}
 use Rattle.std.specs.Float.Ieee.{to_bits}
 use Rattle.numbers.specs.Double.{◌⊗◌, ◌⊘◌, bits, 0·0, 1·0, 2·0}
 use Rattle.square_root.specs.SquareRoot.{root_of}
 use Rattle.half_turn.specs.HalfTurn.{half_turn_of}
-use Rattle.half_turn.specs.declared.HalfTurn.{HalfTurn}
-use Rattle.half_turn.specs.declared.HalfTurn.TheVariants.{Of, OutOfRange}
+use Rattle.half_turn.specs.declared.SinCos.{SinCos}
 use Rattle.numbers.specs.Vec3.{vec_by}
 use Rattle.numbers.specs.declared.quaternion.Quaternion.{Quaternion}
-use Rattle.square_root.specs.declared.Root.{Root}
-use Rattle.square_root.specs.declared.Root.TheVariants.{Is, No}
-use Rattle.refusals.specs.declared.Place.{Place}
-use Rattle.refusals.specs.declared.Place.TheVariants.{At, Nothing}
-use Rattle.refusals.specs.declared.Verdict.{Verdict}
-use Rattle.refusals.specs.declared.Verdict.TheVariants.{Fine}
-use Rattle.refusals.specs.declared.Verdict.TheVariants as verdict
+use Rattle.refusals.specs.Refusals.{Verdict}
 use Rattle.spatial.specs.Twist.{zeros_of}
 use Rattle.spatial.specs.Wrench.{vector_of}
 use Rattle.slots.specs.Slots.{vec3_at}
@@ -43,34 +36,34 @@ use Rattle.forward_dynamics.specs.declared.forward_dynamics.Mode.TheVariants.{Fi
 pub data Told : Type 0 where
   given : List ℕ → Told
   -- by the refusal's number, what is named, and what the numbers then are
-  refused : ℕ → Place → List ℕ → Told
+  refused : ℕ → Option ℕ → List ℕ → Told
   -- no root, out of range, or a calculation that has not ended
   unanswered : Told
 
 abbrev pub patterns : List Float → List ℕ
 patterns v = map (to_bits binary64) v
 
-abbrev pub of_root : Root → Told
-of_root (Is r) = given (patterns (r ∷ []))
-of_root No = unanswered
+abbrev pub of_root : Option Float → Told
+of_root (Some r) = given (patterns (r ∷ []))
+of_root None = unanswered
 
-abbrev pub of_half_turn : HalfTurn → Told
-of_half_turn (Of v) = given (patterns (v.sin ∷ v.cos ∷ []))
-of_half_turn OutOfRange = unanswered
+abbrev pub of_half_turn : Option SinCos → Told
+of_half_turn (Some v) = given (patterns (v.sin ∷ v.cos ∷ []))
+of_half_turn None = unanswered
 
 abbrev pub of_verdict : Verdict → List Float → Told
-of_verdict Fine v = given (patterns v)
-of_verdict (verdict.Refused number p) v = refused number p (patterns v)
+of_verdict (Ok u) v = given (patterns v)
+of_verdict (Err r) v = refused r.number r.place (patterns v)
 
 abbrev pub of_outcome : Outcome → List Float → Told
 of_outcome Open v = unanswered
 of_outcome Accepted v = given (patterns v)
-of_outcome (outcome.Refused number p) v = refused number p (patterns v)
+of_outcome (outcome.Refused r) v = refused r.number r.place (patterns v)
 
 -- marks as numbers
 abbrev pub of_marks : Verdict → List Bool → Told
-of_marks Fine marks = given (map (λ b. cond b 1 0) marks)
-of_marks (verdict.Refused number p) marks = refused number p (map (λ b. cond b 1 0) marks)
+of_marks (Ok u) marks = given (map (λ b. cond b 1 0) marks)
+of_marks (Err r) marks = refused r.number r.place (map (λ b. cond b 1 0) marks)
 
 -- ---- the arms
 
@@ -205,7 +198,7 @@ twelve =
     -- 2: (3, 4, 0) becomes (0.75/1.25, 1/1.25, 0)
     ∷ (kept_axis (axis 3·0 4·0 0·0), given (patterns (axis (bits 0x3fe8_0000_0000_0000 ⊘ bits 0x3ff4_0000_0000_0000) (1·0 ⊘ bits 0x3ff4_0000_0000_0000) 0·0)))
     -- 3 and 4: (1e-12, 0, 0) and (2e-12, 0, 0)
-    ∷ (kept_axis (axis (bits 0x3d71_9799_812d_ea11) 0·0 0·0), refused 5 (At 0) (0 ∷ 0 ∷ 0 ∷ []))
+    ∷ (kept_axis (axis (bits 0x3d71_9799_812d_ea11) 0·0 0·0), refused 5 (Some 0) (0 ∷ 0 ∷ 0 ∷ []))
     ∷ (kept_axis (axis (bits 0x3d81_9799_812d_ea11) 0·0 0·0), given (0x3ff0_0000_0000_0000 ∷ 0 ∷ 0 ∷ []))
     -- 5: 2
     ∷ (fixed_matrix (one_slide 2·0), given (0x4000_0000_0000_0000 ∷ []))
@@ -218,10 +211,10 @@ twelve =
     -- 9: -9.80665
     ∷ (forward (Fixed upright) (one_slide 2·0) (0·0 ∷ []), given (0xc023_9d01_3a92_a305 ∷ []))
     -- 10: both calculations, the matrix +0.0
-    ∷ (forward (Fixed upright) (one_slide 0·0) (0·0 ∷ []), refused 31 (At 0) (0x3ff0_0000_0000_0000 ∷ []))
+    ∷ (forward (Fixed upright) (one_slide 0·0) (0·0 ∷ []), refused 31 (Some 0) (0x3ff0_0000_0000_0000 ∷ []))
     ∷ (fixed_matrix (one_slide 0·0), given (0 ∷ []))
     -- 11: the output as it was
-    ∷ (fixed_matrix (two_slides 1 huge huge), refused 37 Nothing (replicate 4 0x3ff0_0000_0000_0000))
+    ∷ (fixed_matrix (two_slides 1 huge huge), refused 37 None (replicate 4 0x3ff0_0000_0000_0000))
     -- 12: all six +0.0
     ∷ (forward (Floating upright zeros_of) (built_of 0 [] [] [] [] (link 4·0 1·0 1·0 1·0) []) (zeros 5 ++ 4·0 ⊗ gravity ∷ []), given (replicate 6 0))
     ∷ []
@@ -230,8 +223,8 @@ twelve =
 unfoldable pub masses : List (Told × Told)
 masses =
     let -3·0 = bits 0xc008_0000_0000_0000 in
-    (kept_masses 2·0 -3·0, refused 8 (At 1) (0 ∷ 0 ∷ []))
-    ∷ (kept_masses -3·0 -3·0, refused 8 (At 0) (0 ∷ 0 ∷ []))
+    (kept_masses 2·0 -3·0, refused 8 (Some 1) (0 ∷ 0 ∷ []))
+    ∷ (kept_masses -3·0 -3·0, refused 8 (Some 0) (0 ∷ 0 ∷ []))
     ∷ (kept_masses (bits 0x8000_0000_0000_0000) 0·0, given (0x8000_0000_0000_0000 ∷ 0 ∷ []))
     ∷ []
 
@@ -248,7 +241,7 @@ loads =
     -- a gripper's 3 and a cable's 4: -7/2 - 9.80665
     ∷ (pulled 3·0 4·0, given (0xc02a_9d01_3a92_a305 ∷ []))
     -- a sum that overflows: what the visits find
-    ∷ (pulled huge huge, refused 36 (At 0) (0x3ff0_0000_0000_0000 ∷ []))
+    ∷ (pulled huge huge, refused 36 (Some 0) (0x3ff0_0000_0000_0000 ∷ []))
     ∷ []
 
 -- document 02, item 6: 1024 and the limit of a turn, each with the next double
@@ -265,7 +258,7 @@ turns =
     -- 13 begins where "out of range" does
     ∷ (turned_by limit, given (0x4014_0000_0000_0000 ∷ []))
     ∷ (turned_by -limit, given (0x4014_0000_0000_0000 ∷ []))
-    ∷ (turned_by beyond, refused 13 (At 0) (0x3ff0_0000_0000_0000 ∷ []))
+    ∷ (turned_by beyond, refused 13 (Some 0) (0x3ff0_0000_0000_0000 ∷ []))
     ∷ []
 
 -- document 02, item 11: a rotor is added to D and to its joint's diagonal entry alone
@@ -286,9 +279,9 @@ rotors =
     ∷ (kept_rotors 1 -0·0 2·0, given (0x8000_0000_0000_0000 ∷ 0x4000_0000_0000_0000 ∷ []))
     ∷ (kept_rotors 2 3·0 nan, given (0x4008_0000_0000_0000 ∷ 0 ∷ []))
     -- what is refused: -3 on one joint and on both, and NaN before it
-    ∷ (kept_rotors 0 1·0 -3·0, refused 26 (At 1) (0 ∷ 0 ∷ []))
-    ∷ (kept_rotors 0 -3·0 -3·0, refused 26 (At 0) (0 ∷ 0 ∷ []))
-    ∷ (kept_rotors 0 -3·0 nan, refused 6 (At 1) (0 ∷ 0 ∷ []))
+    ∷ (kept_rotors 0 1·0 -3·0, refused 26 (Some 1) (0 ∷ 0 ∷ []))
+    ∷ (kept_rotors 0 -3·0 -3·0, refused 26 (Some 0) (0 ∷ 0 ∷ []))
+    ∷ (kept_rotors 0 -3·0 nan, refused 6 (Some 1) (0 ∷ 0 ∷ []))
     ∷ []
 
 -- document 02, item 10: the plain engine
@@ -297,10 +290,10 @@ plain =
     -- cases 6, 7 and 11, and case 6 with rotors
     (plain_fixed (two_slides 1 2·0 3·0), given (0x4014_0000_0000_0000 ∷ 0x4008_0000_0000_0000 ∷ 0x4008_0000_0000_0000 ∷ 0x4008_0000_0000_0000 ∷ []))
     ∷ (plain_fixed (two_slides 0 2·0 3·0), given (0x4000_0000_0000_0000 ∷ 0 ∷ 0 ∷ 0x4008_0000_0000_0000 ∷ []))
-    ∷ (plain_fixed (two_slides 1 huge huge), refused 37 Nothing (replicate 4 0x3ff0_0000_0000_0000))
+    ∷ (plain_fixed (two_slides 1 huge huge), refused 37 None (replicate 4 0x3ff0_0000_0000_0000))
     ∷ (plain_fixed (geared 1 2·0 3·0 1·0 2·0), given (0x4018_0000_0000_0000 ∷ 0x4008_0000_0000_0000 ∷ 0x4008_0000_0000_0000 ∷ 0x4014_0000_0000_0000 ∷ []))
     -- an output of 3 numbers
-    ∷ (plain_at (zeros 2) 3 (two_slides 1 2·0 3·0), refused 17 Nothing (replicate 3 0x3ff0_0000_0000_0000))
+    ∷ (plain_at (zeros 2) 3 (two_slides 1 2·0 3·0), refused 17 None (replicate 3 0x3ff0_0000_0000_0000))
     -- the second reader's arm (docs/READING.md): 106, -15, 5, -15, 5.5, 0, 5, 0, 2
     ∷ (plain_at (0·0 ∷ 2·0 ∷ 0·0 ∷ []) 9 read, given (0x405a_8000_0000_0000 ∷ 0xc02e_0000_0000_0000 ∷ 0x4014_0000_0000_0000 ∷ 0xc02e_0000_0000_0000 ∷ 0x4016_0000_0000_0000 ∷ 0 ∷ 0x4014_0000_0000_0000 ∷ 0 ∷ 0x4000_0000_0000_0000 ∷ []))
     ∷ []
@@ -328,8 +321,8 @@ standing =
     -- on a floating root, the first joint alone, with the root's link weighed again: of the base nothing is said
     ∷ (stands_for true 1 (changes (flag 0) [] [] []) 49, given (replicate 48 0 ++ 1 ∷ []))
     -- what is refused: 33 joints, and 8 marks
-    ∷ (stands_for false 33 (changes [] [] [] []) 2, refused 9 Nothing (0 ∷ 0 ∷ []))
-    ∷ (stands_for false 4 (changes [] [] [] []) 8, refused 17 Nothing (replicate 8 0))
+    ∷ (stands_for false 33 (changes [] [] [] []) 2, refused 9 None (0 ∷ 0 ∷ []))
+    ∷ (stands_for false 4 (changes [] [] [] []) 8, refused 17 None (replicate 8 0))
     ∷ []
 
 -- each is told as expected

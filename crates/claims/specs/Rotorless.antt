@@ -5,10 +5,8 @@ use Rattle.std.specs.Float.Ieee.{ne}
 use Rattle.std.specs.Float.{nan}
 use Rattle.numbers.specs.Double.{◌⊖◌, 0·0}
 use Rattle.numbers.specs.declared.quaternion.Quaternion.{Quaternion}
-use Rattle.refusals.specs.declared.Place.{Place}
-use Rattle.refusals.specs.declared.Place.TheVariants.{At, Nothing}
-use Rattle.refusals.specs.declared.Verdict.{Verdict}
-use Rattle.refusals.specs.declared.Verdict.TheVariants.{Fine}
+use Rattle.std.specs.Prelude.{Option, Some, None}
+use Rattle.refusals.specs.Refusals.{Verdict, fine}
 use Rattle.spatial.specs.Operators.{motion_force_dot}
 use Rattle.spatial.specs.declared.twist.Twist.{Twist}
 use Rattle.spatial.specs.declared.wrench.Wrench.{Wrench}
@@ -61,19 +59,19 @@ bare_term motion inertia force own =
 
 unfoldable pub bare_eliminated : Plan → Motion → ℕ → List Float → ℕ → List Float → Verdict × List Float
 bare_eliminated p motion number forces j ws =
-    cond (fixed_by motion) (Fine, ws)
+    cond (fixed_by motion) (fine, ws)
     (kept_term (bare_term motion (mat6_at ws (inertia_place j)) (wrench_at ws (force_place j)) (get_or forces (p.lead + number) nan)) number j ws)
 
 unfoldable pub bare_second : Plan → List ℕ → List ℕ → List Float → List Float → ℕ → List Float → Verdict × List Float
 bare_second p parents kinds axes forces j ws =
     let motion = motion_of kinds axes j in
     let e = bare_eliminated p motion (actives_of kinds j) forces j ws in
-    unless_refused e.0 e.1 (Fine, propagated p motion (parent_of parents j) j e.1)
+    unless_refused e.0 e.1 (fine, propagated p motion (parent_of parents j) j e.1)
 
 unfoldable pub bare_pass : Plan → Quaternion → Twist → Model → List Float → List Float → List Float → ℕ → List Float → Verdict × List Float
 bare_pass p rotation velocity m q qd forces at ws =
     let n = p.n in
-    cond (ltb at n) (Fine, first_visit velocity m.parents m.kinds m.origins m.axes m.links q qd at ws)
+    cond (ltb at n) (fine, first_visit velocity m.parents m.kinds m.origins m.axes m.links q qd at ws)
     (cond (ltb at (n + n)) (bare_second p m.parents m.kinds m.axes forces (n + n - 1 - at) ws)
     (cond (eqb at (n + n)) (root.root_visit p rotation velocity forces ws)
     (third_visit p m.parents m.kinds m.axes (at - (n + n) - 1) ws)))
@@ -85,11 +83,11 @@ bare_forward_visit p rotation velocity m i at ws =
 
 -- ---- the matrix
 
-unfoldable pub bare_column : Plan → Quaternion → List ℕ → List ℕ → List Float → Place → List Float → List Float
-bare_column p r parents kinds axes (At j) ws =
+unfoldable pub bare_column : Plan → Quaternion → List ℕ → List ℕ → List Float → Option ℕ → List Float → List Float
+bare_column p r parents kinds axes (Some j) ws =
     let column = p.lead + actives_of kinds j in
     base_rows p r column (walk_of p parents kinds axes column j (force_of (motion_of kinds axes j) (composite_at ws (composite_place j)), ws))
-bare_column p r parents kinds axes Nothing ws = ws
+bare_column p r parents kinds axes None ws = ws
 
 unfoldable pub bare_joint : Plan → Quaternion → Model → List Float → ℕ → List Float → List Float
 bare_joint p r m q at ws =

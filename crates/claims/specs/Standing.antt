@@ -2,8 +2,7 @@
 use Rattle.std.specs.Prelude.{Bool, true, false, List, ◌≡◌, ℕ, suc, ◌+◌, ◌*◌, ◌≤◌, ◌<◌, length, get_or, Float}
 use Rattle.std.specs.Float.{nan}
 use Rattle.numbers.specs.Double.{0·0}
-use Rattle.refusals.specs.declared.Verdict.{Verdict}
-use Rattle.refusals.specs.declared.Verdict.TheVariants.{Fine}
+use Rattle.refusals.specs.Refusals.{Verdict, fine}
 use Rattle.slots.specs.Slots.{vec3_at, frame_at}
 use Rattle.arm.specs.Model.{parent_of, kind_of, rotor_of, link_of}
 use Rattle.arm.specs.Topology.{actives_of, value_of}
@@ -84,6 +83,6 @@ MarksKeep {K} {L} {A} {R} {E} {B} {Q} {F} post post' asked seen told marked =
     (κs λs : K) (μs : L) (a : A κs) (b : A λs) (c : B μs) (r : R κs) (s : R λs) (v : Q μs) (e : E κs) (f : E λs) (g : F μs)
     → post κs a r e → post λs b s f → post' μs c v g
     → (mode mode' : Mode) → (asked κs a).0 ≡ Matrix mode → (asked λs b).0 ≡ Matrix mode' → Tells mode mode' (asked κs a).1 (told μs c)
-    → (seen κs r e).0 ≡ Accepted → (seen λs s f).0 ≡ Accepted → (marked μs v g).0 ≡ Fine
+    → (seen κs r e).0 ≡ Accepted → (seen λs s f).0 ≡ Accepted → (marked μs v g).0 ≡ fine
     → SameBut (told μs c).4 (asked κs a).1 (asked λs b).1 (asked κs a).2 (asked λs b).2
     → (t : ℕ) → t < length (marked μs v g).1 → another (marked μs v g).1 t ≡ true → get_or (seen κs r e).1 t nan ≡ get_or (seen λs s f).1 t nan

@@ -10,33 +10,30 @@ use numbers::vec3::Vec3;
 use spatial::frame::Frame;
 use spatial::wrench::Wrench;
 
+#[tactic(auto, unfolding(crate::specs::Composite::composite_at))]
 pub fn composite_at(s: &[f64], at: usize) -> Link
     requires { at + 13 ≤ length s.now }
     ensures { result ≡ composite_at s.now at }
 {
-    let mass = slots::number_at(s, at);
-    let moment = slots::vec3_at(s, at + 1);
-    let inertia = slots::mat3_at(s, at + 4);
     Link {
-        mass,
-        moment,
-        inertia,
+        mass: slots::number_at(s, at),
+        moment: slots::vec3_at(s, at + 1),
+        inertia: slots::mat3_at(s, at + 4),
     }
 }
 
+#[tactic(auto, unfolding(crate::specs::Composite::put_composite))]
 pub fn put_composite(s: &mut [f64], at: usize, c: Link)
     requires { at + 13 ≤ length s.old }
     ensures { s.new ≡ put_composite s.old at c }
 {
-    let mass = c.mass;
-    let moment = c.moment;
-    let inertia = c.inertia;
-    slots::put_number(s, at, mass);
-    slots::put_vec3(s, at + 1, moment);
-    slots::put_mat3(s, at + 4, inertia);
+    slots::put_number(s, at, c.mass);
+    slots::put_vec3(s, at + 1, c.moment);
+    slots::put_mat3(s, at + 4, c.inertia);
 }
 
 // A turned inertia about an origin that is t away: i + (m t·t + 2 t·h) 1 - (m t) tᵀ - t hᵀ - h tᵀ.
+#[tactic(auto, unfolding(crate::specs::Composite::shifted_of))]
 fn shifted(i: Mat3, mass: f64, t: Vec3, h: Vec3) -> Mat3
     ensures { result ≡ shifted_of i mass t h }
 {
@@ -50,6 +47,7 @@ fn shifted(i: Mat3, mass: f64, t: Vec3, h: Vec3) -> Mat3
 }
 
 // A composite about its parent link's origin.
+#[tactic(auto, unfolding(crate::specs::Composite::to_parent_of, numbers::specs::Mat3::turned_of))]
 pub fn to_parent(c: Link, f: Frame) -> Link
     ensures { result ≡ to_parent_of c f }
 {
@@ -57,50 +55,47 @@ pub fn to_parent(c: Link, f: Frame) -> Link
     let t = f.translation;
     let mass = c.mass;
     let h = rotation.apply(c.moment);
-    let inertia = shifted(
-        rotation.times(c.inertia).times(rotation.transpose()),
-        mass,
-        t,
-        h,
-    );
-    let moment = t.scale(mass).plus(h);
+    let turned = rotation.times(c.inertia).times(rotation.transpose());
     Link {
         mass,
-        moment,
-        inertia,
+        moment: t.scale(mass).plus(h),
+        inertia: shifted(turned, mass, t, h),
     }
 }
 
+#[tactic(auto, unfolding(crate::specs::Composite::joined_of))]
 pub fn joined(a: Link, b: Link) -> Link
     ensures { result ≡ joined_of a b }
 {
-    let mass = a.mass + b.mass;
-    let moment = a.moment.plus(b.moment);
-    let inertia = a.inertia.plus(b.inertia);
     Link {
-        mass,
-        moment,
-        inertia,
+        mass: a.mass + b.mass,
+        moment: a.moment.plus(b.moment),
+        inertia: a.inertia.plus(b.inertia),
     }
 }
 
 // The wrench that a composite answers a turn about an axis with, and a slide along it.
+#[tactic(auto, unfolding(crate::specs::Composite::force_of))]
 pub fn turn_force(axis: Vec3, c: Link) -> Wrench
     ensures { result ≡ force_of (Motion.Turn axis) c }
 {
-    let torque = c.inertia.apply(axis);
-    let force = axis.cross(c.moment);
-    Wrench { torque, force }
+    Wrench {
+        torque: c.inertia.apply(axis),
+        force: axis.cross(c.moment),
+    }
 }
 
+#[tactic(auto, unfolding(crate::specs::Composite::force_of))]
 pub fn slide_force(axis: Vec3, c: Link) -> Wrench
     ensures { result ≡ force_of (Motion.Slide axis) c }
 {
-    let torque = c.moment.cross(axis);
-    let force = axis.scale(c.mass);
-    Wrench { torque, force }
+    Wrench {
+        torque: c.moment.cross(axis),
+        force: axis.scale(c.mass),
+    }
 }
 
+#[tactic(auto, unfolding(crate::specs::Composite::force_of))]
 pub fn force(motion: Motion, c: Link) -> Wrench
     ensures { result ≡ force_of motion c }
 {
@@ -112,6 +107,7 @@ pub fn force(motion: Motion, c: Link) -> Wrench
 }
 
 // What a wrench gives along a motion.
+#[tactic(auto, unfolding(crate::specs::Composite::entry_of))]
 pub fn entry(motion: Motion, w: Wrench) -> f64
     ensures { result ≡ entry_of motion w }
 {

@@ -20,16 +20,16 @@ pub const COMPOSITE: usize = 7;
 pub const ROOT: usize = 64;
 
 // The place of a row and a column: column by column, behind the root's numbers.
+#[tactic(auto, using(crate::proofs::plan::Squares::squares))]
 fn place(p: Plan, row: usize, column: usize) -> usize
     requires { (p.n ≤ 32) × (p.side ≤ 38) × (row < p.side) × (column < p.side) }
     ensures { (result ≡ place_of p row column) × (result < room_of p) }
 {
-    let n = p.n;
-    let side = p.side;
-    n * JOINT + ROOT + column * side + row
+    p.n * JOINT + ROOT + column * p.side + row
 }
 
 // The matrix row of an active joint.
+#[tactic(auto, using(arm::proofs::topology::Counts::bounds))]
 pub fn row_of<'a>(
     p: Plan,
     parents: &'a [u8; 32],
@@ -40,12 +40,11 @@ pub fn row_of<'a>(
     requires { Fit p parents.now kinds.now numbers.now × (j < p.n) × (kind_of kinds.now j ≡ 2 → ⊥) }
     ensures { (result ≡ p.lead + actives_of kinds.now j) × (result < p.side) }
 {
-    let lead = p.lead;
-    let k = topology::number_at(kinds, numbers, j);
-    lead + k
+    p.lead + topology::number_at(kinds, numbers, j)
 }
 
 // An entry and its mirror.
+#[tactic(auto, unfolding(crate::specs::Plan::put_pair))]
 pub fn put_pair(p: Plan, ws: &mut [f64], row: usize, column: usize, entry: f64)
     requires { Room p (length ws.old) × (row < p.side) × (column < p.side) }
     ensures { ws.new ≡ put_pair p row column entry ws.old }
@@ -57,21 +56,21 @@ pub fn put_pair(p: Plan, ws: &mut [f64], row: usize, column: usize, entry: f64)
 }
 
 // The base's six rows of a column, and their mirrors.
+#[tactic(auto, unfolding(crate::specs::Plan::put_six))]
 pub fn put_six(p: Plan, ws: &mut [f64], column: usize, w: Wrench)
     requires { Room p (length ws.old) × (6 ≤ p.side) × (column < p.side) }
     ensures { ws.new ≡ put_six p column w ws.old }
 {
-    let torque = w.torque;
-    let force = w.force;
-    put_pair(p, ws, 0, column, torque.x);
-    put_pair(p, ws, 1, column, torque.y);
-    put_pair(p, ws, 2, column, torque.z);
-    put_pair(p, ws, 3, column, force.x);
-    put_pair(p, ws, 4, column, force.y);
-    put_pair(p, ws, 5, column, force.z);
+    put_pair(p, ws, 0, column, w.torque.x);
+    put_pair(p, ws, 1, column, w.torque.y);
+    put_pair(p, ws, 2, column, w.torque.z);
+    put_pair(p, ws, 3, column, w.force.x);
+    put_pair(p, ws, 4, column, w.force.y);
+    put_pair(p, ws, 5, column, w.force.z);
 }
 
 // A wrench down the first six rows of a column (`write_wrench_to_column`).
+#[tactic(auto, using(crate::proofs::plan::Squares::squares))]
 pub fn write_wrench_to_column(p: Plan, ws: &mut [f64], column: usize, w: Wrench)
     requires { Room p (length ws.old) × (6 ≤ p.side) × (column < p.side) }
     ensures { ws.new ≡ put_wrench ws.old (place_of p 0 column) w }
@@ -81,6 +80,7 @@ pub fn write_wrench_to_column(p: Plan, ws: &mut [f64], column: usize, w: Wrench)
 }
 
 // The rotor of a row's joint, on its diagonal entry alone.
+#[tactic(auto, unfolding(crate::specs::Plan::add_rotor))]
 pub fn add_rotor(p: Plan, ws: &mut [f64], row: usize, rotor: f64)
     requires { Room p (length ws.old) × (row < p.side) }
     ensures { ws.new ≡ add_rotor p row rotor ws.old }

@@ -81,16 +81,13 @@ fn begin() -> Kept
 fn read(input: &mut Stdin, block: &mut [u8; 65536]) -> Option<usize>
     ensures { IfSome result (λ n. n ≤ length block.new) }
 {
-    let mut got = input.read(block);
-    let mut tries = 8u8;
-    while tries > 0 && got.is_err() {
-        got = input.read(block);
-        tries -= 1;
+    for _ in 0..9 {
+        if let Ok(n) = input.read(block) {
+            return Some(n);
+        }
     }
-    if got.is_err() {
-        io::write_all(2, b"desk: the input cannot be read\n");
-    }
-    got.ok()
+    io::write_all(2, b"desk: the input cannot be read\n");
+    None
 }
 
 // A new block, where nothing is left of the last one; it ends at 0 where it cannot be read or the input has ended.
@@ -102,16 +99,11 @@ fn fill(input: &mut Stdin, block: &mut [u8; 65536], k: Kept) -> Kept
         return k;
     }
     let got = read(input, block);
-    let model = k.model;
     Kept {
         next: 0,
         end: got.unwrap_or(0),
-        len: k.len,
-        over: k.over,
-        model,
-        put: k.put,
         ended: got == Some(0),
-        live: k.live,
+        ..k
     }
 }
 
@@ -159,16 +151,10 @@ fn turn(
     if f.next < f.end {
         return serve(block, line, out, f);
     }
-    let model = f.model;
     Kept {
-        next: f.next,
-        end: f.end,
-        len: f.len,
-        over: f.over,
-        model,
         put: 0,
-        ended: f.ended,
         live: false,
+        ..f
     }
 }
 
@@ -182,7 +168,7 @@ fn last(line: &[u8; 65536], out: &mut [u8; 262144], k: Kept) -> usize
     w.count
 }
 
-// A proved loop has to end, and nothing says that the input does: the turns are counted down from a number that no run uses up.
+// A proved loop has to end, and nothing says that the input does: there are as many turns as no run uses up.
 // Each turn but the last takes at least a byte. A line that a failed read cut short is not answered, nor one behind answers that could not be written.
 fn main(rt: HostRuntime) {
     let mut input = rt.stdin();
@@ -190,10 +176,11 @@ fn main(rt: HostRuntime) {
     let mut line = io::large_buffer();
     let mut out = out_buffer();
     let mut k = begin();
-    let mut turns = u64::MAX;
-    while turns > 0 && k.live {
+    'turns: for _ in 0..u64::MAX {
+        if !k.live {
+            break;
+        }
         k = turn(&mut input, &mut block, &mut line, &mut out, k);
-        turns -= 1;
     }
     if k.ended {
         last(&line, &mut out, k);

@@ -1,25 +1,26 @@
 -- What the definitions say of either calculation alike, and what a run of its visits is to them. Assumes nothing.
 use mathlib.Core.Bool.{Bool, true, false}
 use mathlib.Core.List.{List}
-use mathlib.Core.Path.{◌≡◌, refl, ap}
+use mathlib.Core.Path.{◌≡◌, refl, sym, ap}
 use Prim.Native.Nat.{ℕ}
 use lib.ListN.{length}
 use lib.Ieee.{Float}
 use Rattle.numbers.specs.declared.quaternion.Quaternion.{Quaternion}
 use Rattle.spatial.specs.declared.twist.Twist.{Twist}
-use Rattle.refusals.specs.Refusals.{or_else}
-use Rattle.refusals.specs.declared.Verdict.TheVariants.{Fine}
-use Rattle.arm.specs.Model.{Good, bundle}
+use Rattle.std.specs.Prelude.{Ok, Err, OnOk}
+use Rattle.refusals.specs.Refusals.{Verdict, or_else, fine}
+use Rattle.slots.specs.Slots.{cleared}
+use Rattle.arm.specs.Model.{bundle}
 use Rattle.arm.specs.Topology.{actives_of, active_numbers}
 use Rattle.arm.specs.declared.model.Model.{Model}
+use Rattle.arm.proofs.topology.Counts.{actives-le}
 use Rattle.articulated.specs.Root.{root_velocity}
 use Rattle.calls.specs.Plan.{plan_by, Within}
-use Rattle.calls.specs.Position.{State, visits_of, fresh_at, shut_at, fresh, shut, position_verdict, checks_of, iterate, step_by, step_of, opening, answer_by, ran}
+use Rattle.calls.specs.Position.{State, visits_of, fresh_at, shut_at, begun_at, position_verdict, unless, iterate, step_by, step_of, opening, answer_by, ran, start_of, portion_of, whole_of}
 use Rattle.calls.specs.declared.plan.Plan.{Plan}
 use Rattle.calls.specs.declared.position.Answer.{Answer}
 use Rattle.calls.specs.declared.position.Position.{Position}
 use Rattle.calls.specs.declared.position.Progress.{Progress}
-use Rattle.calls.proofs.Fits.{within-fresh}
 use Rattle.composites.specs.Plan.{matrix_place}
 use Rattle.matrix_visits.specs.Kernel as matrix-visits
 use Rattle.mass_matrix.specs.MassMatrix as matrix
@@ -39,56 +40,39 @@ use Rattle.dynamics.specs.declared.calculation.Calculation.TheVariants.{Matrix, 
 
 -- ---- either calculation
 
-pub inputs_are : (c : Calculation) (m : Model) (i : Inputs) (ws out : ℕ) → verdict_of c m.n m.parents m.kinds i ws out ≡ (work_of c m i).inputs ws out
-unfolding mass_matrix forward_dynamics
-inputs_are (Matrix mode) m i ws out = refl
-inputs_are (Forward mode) m i ws out = refl
+-- the calls, by the checks and the counts that the code has
+pub start_is : (c : Calculation) (m : Model) (i : Inputs) (ws out : List Float) → start_of (work_of c m i) ws out
+    ≡ unless (verdict_of c m.n m.parents m.kinds i (length ws) (length out)) (shut_at (is_matrix c) (floats c)) ws out (begun_at (fresh_at (is_matrix c) (floats c) m.n (actives_of m.kinds m.n)), cleared ws, out)
+unfolding start_of mass_matrix forward_dynamics
+start_is (Matrix mode) m i ws out = refl
+start_is (Forward mode) m i ws out = refl
 
-pub checks-are : (c : Calculation) (m : Model) (i : Inputs) (p : Position) (ws out : ℕ)
-    → or_else (verdict_of c m.n m.parents m.kinds i ws out) (position_verdict (is_matrix c) (floats c) m.n (actives_of m.kinds m.n) p) ≡ checks_of (work_of c m i) p ws out
-unfolding mass_matrix forward_dynamics
-checks-are (Matrix mode) m i p ws out = refl
-checks-are (Forward mode) m i p ws out = refl
+pub portion_is : (c : Calculation) (m : Model) (i : Inputs) (budget : ℕ) (p : Position) (ws out : List Float) → portion_of (work_of c m i) budget p ws out
+    ≡ unless (or_else (verdict_of c m.n m.parents m.kinds i (length ws) (length out)) (position_verdict (is_matrix c) (floats c) m.n (actives_of m.kinds m.n) p)) p ws out (ran (work_of c m i) budget p ws out)
+unfolding portion_of mass_matrix forward_dynamics
+portion_is (Matrix mode) m i budget p ws out = refl
+portion_is (Forward mode) m i budget p ws out = refl
 
-shut-is : (c : Calculation) (m : Model) (i : Inputs) → shut_at (is_matrix c) (floats c) ≡ shut (work_of c m i)
-unfolding mass_matrix forward_dynamics
-shut-is (Matrix mode) m i = refl
-shut-is (Forward mode) m i = refl
+pub whole_is : (c : Calculation) (m : Model) (i : Inputs) (ws out : List Float) → whole_of (work_of c m i) ws out
+    ≡ unless (verdict_of c m.n m.parents m.kinds i (length ws) (length out)) (shut_at (is_matrix c) (floats c)) ws out
+    (ran (work_of c m i) (visits_of (is_matrix c) m.n (actives_of m.kinds m.n)) (fresh_at (is_matrix c) (floats c) m.n (actives_of m.kinds m.n)) (cleared ws) out)
+unfolding whole_of mass_matrix forward_dynamics
+whole_is (Matrix mode) m i ws out = refl
+whole_is (Forward mode) m i ws out = refl
 
-fresh-is : (c : Calculation) (m : Model) (i : Inputs) → fresh_at (is_matrix c) (floats c) m.n (actives_of m.kinds m.n) ≡ fresh (work_of c m i)
-unfolding mass_matrix forward_dynamics
-fresh-is (Matrix mode) m i = refl
-fresh-is (Forward mode) m i = refl
+-- what a verdict's Ok tells
+pub on_fine : {v w : Verdict} {P : Type 0} → v ≡ w → (w ≡ fine → P) → OnOk v P
+on_fine {v = Ok u} e f = f (sym e)
+on_fine {v = Err r} e f = tt
 
-visits-are : (c : Calculation) (m : Model) (i : Inputs) → visits_of (is_matrix c) m.n (actives_of m.kinds m.n) ≡ visits_of (work_of c m i).matrix (work_of c m i).n (work_of c m i).a
-unfolding mass_matrix forward_dynamics
-visits-are (Matrix mode) m i = refl
-visits-are (Forward mode) m i = refl
-
--- of the flags and the count that the code has
-module _ (c : Calculation) (m : Model) (i : Inputs) {b : Bool} (eb : b ≡ is_matrix c) where
-  pub shut_by : {f : Bool} {p : Position} → f ≡ floats c → p ≡ shut_at b f → p ≡ shut (work_of c m i)
-  shut_by ef ep = rw (ep, eb, ef) (shut-is c m i)
-
-  pub fresh-by : {f : Bool} {p : Position} {a : ℕ} → f ≡ floats c → a ≡ actives_of m.kinds m.n → p ≡ fresh_at b f m.n a → p ≡ fresh (work_of c m i)
-  fresh-by ef ea ep = rw (ep, eb, ef, ea) (fresh-is c m i)
-
-  pub visits-by : {a all : ℕ} → a ≡ actives_of m.kinds m.n → all ≡ visits_of b m.n a → all ≡ visits_of (work_of c m i).matrix (work_of c m i).n (work_of c m i).a
-  visits-by ea el = rw (el, eb, ea) (visits-are c m i)
-
--- a fresh position has a visit left
-pub fresh-within : (c : Calculation) (n a : ℕ) {b f : Bool} {p : Position} → b ≡ is_matrix c → f ≡ floats c → p ≡ fresh_at b f n a → Within (is_matrix c) (plan_by (floats c) n a) p
-fresh-within c n a {p = p} eb ef ep = within-fresh (floats c) n a (plan_by (floats c) n a) p refl (is_matrix c) (rw (← eb, ← ef) ep)
-
-pub passed-good : (c : Calculation) (n : ℕ) (parents kinds : List ℕ) (i : Inputs) (ws out : ℕ) → verdict_of c n parents kinds i ws out ≡ Fine → Good n parents kinds
-passed-good (Matrix mode) n parents kinds i ws out v = matrix-ready.passed-good (matrix.floats mode) (matrix.rotation_of mode) n parents kinds i.q ws out v
-passed-good (Forward mode) n parents kinds i ws out v = forward-ready.passed-good (forward.floats mode) (forward.rotation_of mode) (forward.base_velocity mode) n parents kinds i ws out v
+-- an active number is at most the joint's own
+pub ruleset counted = (actives-le)
 
 -- ---- a run
 
 module _ (c : Calculation) (n : ℕ) (parents kinds : List ℕ) (a : ℕ) {f : Bool} {p : Plan} (ea : a ≡ actives_of kinds n) (ef : f ≡ floats c) (ep : p ≡ plan_by f n a) where
   -- what it asks for
-  module _ (numbers : List ℕ) (i : Inputs) (ws out : ℕ) (from : Position) (en : numbers ≡ active_numbers kinds) (v : verdict_of c n parents kinds i ws out ≡ Fine)
+  module _ (numbers : List ℕ) (i : Inputs) (ws out : ℕ) (from : Position) (en : numbers ≡ active_numbers kinds) (v : verdict_of c n parents kinds i ws out ≡ fine)
       (w : Within (is_matrix c) (plan_by (floats c) n a) from) where
     pub ready-matrix : {mode : Mode} → c ≡ Matrix mode → matrix.Ready p parents kinds numbers (length i.q) ws out × Within true p from
     ready-matrix {mode = mode} ec =

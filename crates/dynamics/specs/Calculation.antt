@@ -1,6 +1,6 @@
 -- Either calculation, as one. Definitions only.
 use Rattle.std.specs.Prelude.{Bool, true, false, List, ℕ, Float}
-use Rattle.refusals.specs.declared.Verdict.{Verdict}
+use Rattle.refusals.specs.Refusals.{Verdict}
 use Rattle.arm.specs.Model.{bundle}
 use Rattle.arm.specs.declared.model.Model.{Model}
 use Rattle.calls.specs.Position.{Work}

@@ -3,9 +3,9 @@
 
 pub mod calculation;
 
-ghost use Rattle.std.specs.Prelude.{◌≡◌, length};
-ghost use Rattle.refusals.specs.Refusals.{or_else};
-ghost use Rattle.refusals.specs.declared.Verdict.TheVariants.{Fine};
+ghost use Rattle.std.specs.Prelude.{◌≡◌, OnOk, length};
+ghost use Rattle.refusals.specs.Refusals.{or_else, fine};
+ghost use Rattle.arm.specs.Model.{Good};
 ghost use Rattle.arm.specs.Topology.{actives_of, active_numbers};
 ghost use Rattle.calls.specs.Plan.{plan_by, Within};
 ghost use Rattle.calls.specs.Position.{position_verdict, ran, start_of, portion_of, whole_of};
@@ -19,7 +19,7 @@ use calls::position::{Answer, Position};
 use calls::{plan, position};
 use forward_dynamics::{checks as forward_checks, run as forward};
 use mass_matrix::{checks as matrix_checks, run as matrix};
-use refusals::Verdict;
+use refusals::Refusal;
 
 // The checks to 22.
 fn judged<'a>(
@@ -35,9 +35,10 @@ fn judged<'a>(
     loads: &'a [f64],
     ws: usize,
     out: usize,
-) -> Verdict
+) -> Result<(), Refusal>
     requires { numbers.now ≡ active_numbers kinds.now }
-    ensures { result ≡ verdict_of c n parents.now kinds.now (inputs_by q.now qd.now forces.now loaded.now loads.now) ws out }
+    ensures verdict { result ≡ verdict_of c n parents.now kinds.now (inputs_by q.now qd.now forces.now loaded.now loads.now) ws out }
+    ensures good { OnOk result (Good n parents.now kinds.now) }
 {
     match c {
         Calculation::Matrix(mode) => {
@@ -68,6 +69,7 @@ fn judged<'a>(
 }
 
 // The checks of a portion.
+#[tactic(auto, using(crate::proofs::Works::counted), unfolding(refusals::specs::Refusals::or_else))]
 fn judged_at<'a>(
     position: Position,
     c: Calculation,
@@ -82,21 +84,22 @@ fn judged_at<'a>(
     loads: &'a [f64],
     ws: usize,
     out: usize,
-) -> Verdict
+) -> Result<(), Refusal>
     requires { numbers.now ≡ active_numbers kinds.now }
-    ensures { result ≡ or_else (verdict_of c n parents.now kinds.now (inputs_by q.now qd.now forces.now loaded.now loads.now) ws out) (position_verdict (is_matrix c) (floats c) n (actives_of kinds.now n) position) }
+    ensures verdict { result ≡ or_else (verdict_of c n parents.now kinds.now (inputs_by q.now qd.now forces.now loaded.now loads.now) ws out) (position_verdict (is_matrix c) (floats c) n (actives_of kinds.now n) position) }
+    ensures good { OnOk result (Good n parents.now kinds.now) }
+    ensures passed { OnOk result (verdict_of c n parents.now kinds.now (inputs_by q.now qd.now forces.now loaded.now loads.now) ws out ≡ fine) }
+    ensures within { OnOk result (Within (is_matrix c) (plan_by (floats c) n (actives_of kinds.now n)) position) }
 {
-    let v = judged(
+    judged(
         c, n, parents, kinds, numbers, q, qd, forces, loaded, loads, ws, out,
-    );
-    let Verdict::Fine = v else {
-        return v;
-    };
+    )?;
     let a = topology::number_at(kinds, numbers, n);
     position.judged(c.is_matrix(), c.floats(), n, a)
 }
 
 // What at most `budget` visits from a position answer, once the checks have passed.
+#[tactic(auto, using(crate::proofs::Works::counted))]
 fn ran<'a>(
     c: Calculation,
     a: usize,
@@ -118,7 +121,11 @@ fn ran<'a>(
     from: Position,
     budget: usize,
 ) -> Answer
-    requires { (numbers.now ≡ active_numbers kinds.now) × (a ≡ actives_of kinds.now n) × (verdict_of c n parents.now kinds.now (inputs_by q.now qd.now forces.now loaded.now loads.now) (length ws.old) (length out.old) ≡ Fine) × Within (is_matrix c) (plan_by (floats c) n a) from }
+    requires numbered { numbers.now ≡ active_numbers kinds.now }
+    requires counted { a ≡ actives_of kinds.now n }
+    requires good { Good n parents.now kinds.now }
+    requires judged { verdict_of c n parents.now kinds.now (inputs_by q.now qd.now forces.now loaded.now loads.now) (length ws.old) (length out.old) ≡ fine }
+    requires within { Within (is_matrix c) (plan_by (floats c) n a) from }
     ensures { (result, ws.new, out.new) ≡ ran (work_by c n parents.now kinds.now origins.now axes.now links.now rotors.now (inputs_by q.now qd.now forces.now loaded.now loads.now)) budget from ws.old out.old }
 {
     let p = plan::planned(c.floats(), n, a);
@@ -174,6 +181,8 @@ pub fn start<'a>(
 ) -> Answer
     ensures { (result, ws.new, out.now) ≡ start_of (work_by c n parents.now kinds.now origins.now axes.now links.now rotors.now (inputs_by q.now qd.now forces.now loaded.now loads.now)) ws.old out.now }
 {
+    let matrix = c.is_matrix();
+    let floating = c.floats();
     let numbers = topology::active_numbers(kinds);
     let room = ws.len();
     let v = judged(
@@ -191,13 +200,11 @@ pub fn start<'a>(
         out.len(),
     );
     match v {
-        Verdict::Refused(number, place) => {
-            Position::shut(c.is_matrix(), c.floats()).refused(number, place)
-        }
-        Verdict::Fine => {
+        Err(refusal) => Position::shut(matrix, floating).refused(refusal),
+        Ok(()) => {
             let a = topology::number_at(kinds, &numbers, n);
             slots::clear(ws);
-            Position::fresh(c.is_matrix(), c.floats(), n, a).begun()
+            Position::fresh(matrix, floating, n, a).begun()
         }
     }
 }
@@ -242,8 +249,8 @@ pub fn portion<'a>(
         out.len(),
     );
     match v {
-        Verdict::Refused(number, place) => position.refused(number, place),
-        Verdict::Fine => {
+        Err(refusal) => position.refused(refusal),
+        Ok(()) => {
             let a = topology::number_at(kinds, &numbers, n);
             ran(
                 c, a, n, parents, kinds, origins, axes, links, rotors, &numbers, q, qd, forces,
@@ -254,6 +261,7 @@ pub fn portion<'a>(
 }
 
 // The undivided call.
+#[tactic(auto, using(crate::proofs::Works::counted))]
 pub fn whole<'a>(
     c: Calculation,
     n: usize,
@@ -273,6 +281,8 @@ pub fn whole<'a>(
 ) -> Answer
     ensures { (result, ws.new, out.new) ≡ whole_of (work_by c n parents.now kinds.now origins.now axes.now links.now rotors.now (inputs_by q.now qd.now forces.now loaded.now loads.now)) ws.old out.old }
 {
+    let matrix = c.is_matrix();
+    let floating = c.floats();
     let numbers = topology::active_numbers(kinds);
     let room = ws.len();
     let v = judged(
@@ -290,13 +300,11 @@ pub fn whole<'a>(
         out.len(),
     );
     match v {
-        Verdict::Refused(number, place) => {
-            Position::shut(c.is_matrix(), c.floats()).refused(number, place)
-        }
-        Verdict::Fine => {
+        Err(refusal) => Position::shut(matrix, floating).refused(refusal),
+        Ok(()) => {
             let a = topology::number_at(kinds, &numbers, n);
-            let from = Position::fresh(c.is_matrix(), c.floats(), n, a);
-            let all = position::visits(c.is_matrix(), n, a);
+            let from = Position::fresh(matrix, floating, n, a);
+            let all = position::visits(matrix, n, a);
             slots::clear(ws);
             ran(
                 c, a, n, parents, kinds, origins, axes, links, rotors, &numbers, q, qd, forces,

@@ -5,7 +5,7 @@ use mathlib.Core.Path.{◌≡◌}
 use Prim.Native.Nat.{ℕ, ◌*◌, ◌≤◌}
 use lib.ListN.{length}
 use Rattle.numbers.specs.declared.quaternion.Quaternion.{Quaternion}
-use Rattle.refusals.specs.declared.Verdict.TheVariants.{Fine}
+use Rattle.refusals.specs.Refusals.{fine}
 use Rattle.refusals.proofs.Verdicts.{plain-fine, both-fine}
 use Rattle.spatial.specs.declared.twist.Twist.{Twist}
 use Rattle.arm.specs.Model.{Good, wild_of}
@@ -23,7 +23,7 @@ roomy : (floating : Bool) (n : ℕ) (parents kinds : List ℕ) (ws : ℕ) → Go
 unfolding plan_by
 roomy floating n parents kinds ws good h = record { few = good.tree.few; small = side-most floating n parents kinds good; room = h }
 
-module _ (floating : Bool) (rotation : Quaternion) (base : Twist) (n : ℕ) (parents kinds : List ℕ) (i : Inputs) (ws out : ℕ) (v : inputs_verdict floating rotation base n parents kinds i ws out ≡ Fine) where
+module _ (floating : Bool) (rotation : Quaternion) (base : Twist) (n : ℕ) (parents kinds : List ℕ) (i : Inputs) (ws out : ℕ) (v : inputs_verdict floating rotation base n parents kinds i ws out ≡ fine) where
   pub passed-good : Good n parents kinds
   unfolding inputs_verdict
   passed-good = tame n parents kinds (plain-fine 9 (wild_of n parents kinds) (both-fine _ _ v).0)

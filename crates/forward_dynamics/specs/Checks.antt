@@ -1,12 +1,9 @@
 -- The checks of forward dynamics to 22 (document 01, "Refusal numbers"). Definitions only.
-use Rattle.std.specs.Prelude.{Bool, not, cond, ◌||◌, List, ℕ, zero, suc, ◌*◌, eqb, ltb, length, get_or, Float}
+use Rattle.std.specs.Prelude.{Bool, not, cond, ◌||◌, List, ℕ, zero, suc, ◌*◌, eqb, ltb, length, get_or, Float, Option, Some, None}
 use Rattle.std.specs.Float.{nan}
 use Rattle.numbers.specs.Double.{finite}
 use Rattle.numbers.specs.declared.quaternion.Quaternion.{Quaternion}
-use Rattle.refusals.specs.Refusals.{lowest, named_of, plain_of, or_else}
-use Rattle.refusals.specs.declared.Place.{Place}
-use Rattle.refusals.specs.declared.Place.TheVariants.{At, Nothing}
-use Rattle.refusals.specs.declared.Verdict.{Verdict}
+use Rattle.refusals.specs.Refusals.{lowest, named_of, plain_of, or_else, Verdict}
 use Rattle.spatial.specs.Twist.{finite_of}
 use Rattle.spatial.specs.Wrench.{finite_of as wrench_finite}
 use Rattle.spatial.specs.declared.twist.Twist.{Twist}
@@ -23,16 +20,16 @@ wild_number s i = not (finite (get_or s i nan))
 -- ---- the lowest link number that is listed with a cause
 
 -- the lower of a link and the one found so far
-unfoldable pub lower_of : ℕ → Place → Place
-lower_of link (At other) = cond (ltb other link) (At other) (At link)
-lower_of link Nothing = At link
+unfoldable pub lower_of : ℕ → Option ℕ → Option ℕ
+lower_of link (Some other) = cond (ltb other link) (Some other) (Some link)
+lower_of link None = Some link
 
-unfoldable pub lower_if : Bool → ℕ → Place → Place
+unfoldable pub lower_if : Bool → ℕ → Option ℕ → Option ℕ
 lower_if bad link p = cond bad (lower_of link p) p
 
 -- of the first k listed, those with a cause
-unfoldable pub least_to : (ℕ → Bool) → List ℕ → ℕ → Place
-least_to bad loaded zero = Nothing
+unfoldable pub least_to : (ℕ → Bool) → List ℕ → ℕ → Option ℕ
+least_to bad loaded zero = None
 least_to bad loaded (suc k) = lower_if (bad k) (get_or loaded k 0) (least_to bad loaded k)
 
 abbrev pub above_at : ℕ → List ℕ → ℕ → Bool

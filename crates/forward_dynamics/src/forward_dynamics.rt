@@ -16,18 +16,14 @@ impl Mode {
     pub fn floats(self) -> bool
         ensures { result ≡ floats self }
     {
-        match self {
-            Mode::Fixed(_) => false,
-            Mode::Floating(_, _) => true,
-        }
+        matches!(self, Mode::Floating(..))
     }
 
     pub fn rotation(self) -> Quaternion
         ensures { result ≡ rotation_of self }
     {
         match self {
-            Mode::Fixed(rotation) => rotation,
-            Mode::Floating(rotation, _) => rotation,
+            Mode::Fixed(rotation) | Mode::Floating(rotation, _) => rotation,
         }
     }
 

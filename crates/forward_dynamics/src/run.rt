@@ -16,6 +16,7 @@ use numbers::quaternion::Quaternion;
 use spatial::twist::Twist;
 
 // One visit of an open position.
+#[tactic(auto, unfolding(calls::specs::Position::visits_of))]
 fn step<'a>(
     p: Plan,
     rotation: Quaternion,
@@ -39,13 +40,11 @@ fn step<'a>(
     requires { Ready p parents.now kinds.now numbers.now (inputs_by q.now qd.now forces.now loaded.now loads.now) (length ws.old) (length out.old) × Within false p s × (s.closed ≡ false) }
     ensures { ((result, ws.new, out.new) ≡ landed (results_place p.n) (opening s, ws.old, out.old) (visits_by p rotation velocity parents.now kinds.now origins.now axes.now links.now rotors.now (inputs_by q.now qd.now forces.now loaded.now loads.now) s.visits ws.old)) × Within false p result.position }
 {
-    let n = p.n;
-    let at = s.visits;
     let o = kernel::visit(
         p, rotation, velocity, parents, kinds, origins, axes, links, rotors, numbers, q, qd,
-        forces, loaded, loads, ws, at,
+        forces, loaded, loads, ws, s.visits,
     );
-    position::close(o, ws, out, n * layout::JOINT + layout::RESULTS);
+    position::close(o, ws, out, p.n * layout::JOINT + layout::RESULTS);
     s.advanced(o)
 }
 
@@ -78,18 +77,15 @@ pub fn run<'a>(
         position: from,
         outcome: Outcome::Open,
     };
-    let mut left = budget;
-    while 0 < left {
+    for _ in 0..budget {
         let position = s.position;
-        let closed = position.closed;
-        if closed {
+        if position.closed {
             return s;
         }
         s = step(
             p, rotation, velocity, parents, kinds, origins, axes, links, rotors, numbers, q, qd,
             forces, loaded, loads, ws, out, position,
         );
-        left -= 1;
     }
     s
 }

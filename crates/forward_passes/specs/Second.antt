@@ -1,7 +1,6 @@
 -- The joints falling, second pass (`forward_dynamics.rs`). Definitions only.
 use Rattle.std.specs.Prelude.{cond, List, ℕ, ◌-◌, eqb, Float}
-use Rattle.refusals.specs.declared.Verdict.{Verdict}
-use Rattle.refusals.specs.declared.Verdict.TheVariants.{Fine}
+use Rattle.refusals.specs.Refusals.{Verdict, fine}
 use Rattle.arm.specs.Model.{parent_of, motion_of, rotor_of}
 use Rattle.arm.specs.Topology.{actives_of}
 use Rattle.arm.specs.declared.joint.Motion.{Motion}
@@ -23,4 +22,4 @@ unfoldable pub second_visit : Plan → List ℕ → List ℕ → List Float → 
 second_visit p parents kinds axes rotors forces j ws =
     let motion = motion_of kinds axes j in
     let e = eliminated p motion (rotor_of rotors j) (actives_of kinds j) forces j ws in
-    unless_refused e.0 e.1 (Fine, propagated p motion (parent_of parents j) j e.1)
+    unless_refused e.0 e.1 (fine, propagated p motion (parent_of parents j) j e.1)

@@ -1,9 +1,7 @@
 -- The joints rising, third pass (`forward_dynamics.rs`). Definitions only.
-use Rattle.std.specs.Prelude.{cond, List, ℕ, ◌+◌, ◌-◌, set, Float}
+use Rattle.std.specs.Prelude.{cond, List, ℕ, ◌+◌, ◌-◌, set, Float, Some}
 use Rattle.numbers.specs.Double.{finite}
-use Rattle.refusals.specs.declared.Place.TheVariants.{At}
-use Rattle.refusals.specs.declared.Verdict.{Verdict}
-use Rattle.refusals.specs.declared.Verdict.TheVariants.{Fine, Refused}
+use Rattle.refusals.specs.Refusals.{Verdict, fine, refused}
 use Rattle.spatial.specs.declared.twist.Twist.{Twist}
 use Rattle.slots.specs.Slots.{frame_at, twist_at, put_twist}
 use Rattle.arm.specs.Model.{parent_of, motion_of}
@@ -27,8 +25,8 @@ carried_at n parents j ws =
 unfoldable pub kept_joint : Plan → Motion → ℕ → Twist → Float → ℕ → List Float → Verdict × List Float
 kept_joint p motion number a x j ws =
     cond (finite x)
-    (Fine, set (put_twist ws (acceleration_place j) (moved_by motion a x)) (results_place p.n + p.lead + number) x)
-    (Refused 36 (At number), ws)
+    (fine, set (put_twist ws (acceleration_place j) (moved_by motion a x)) (results_place p.n + p.lead + number) x)
+    (refused 36 (Some number), ws)
 
 unfoldable pub solved_joint : Plan → Motion → ℕ → Twist → ℕ → List Float → Verdict × List Float
 solved_joint p motion number a j ws = kept_joint p motion number a (joint_acceleration a (term_at ws (term_place j))) j ws
@@ -37,4 +35,4 @@ unfoldable pub third_visit : Plan → List ℕ → List ℕ → List Float → �
 third_visit p parents kinds axes j ws =
     let motion = motion_of kinds axes j in
     let a = carried_at p.n parents j ws in
-    cond (fixed_by motion) (Fine, put_twist ws (acceleration_place j) a) (solved_joint p motion (actives_of kinds j) a j ws)
+    cond (fixed_by motion) (fine, put_twist ws (acceleration_place j) a) (solved_joint p motion (actives_of kinds j) a j ws)

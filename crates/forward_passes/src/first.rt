@@ -13,6 +13,7 @@ use forward_slots::layout;
 use spatial::twist::Twist;
 
 // The twist of a parent link: the root's, or the one at an offset of the parent's joint.
+#[tactic(auto, unfolding(crate::specs::First::parent_twist))]
 pub fn parent_twist(ws: &[f64], parent: usize, root: Twist, offset: usize) -> Twist
     requires { (parent ≤ 32) × (frame_place parent ≤ length ws.now) × (offset + 6 ≤ frame_place 1) }
     ensures { result ≡ parent_twist ws.now parent root (frame_place (parent - 1) + offset) }
@@ -23,21 +24,19 @@ pub fn parent_twist(ws: &[f64], parent: usize, root: Twist, offset: usize) -> Tw
     slots::twist_at(ws, (parent - 1) * layout::JOINT + offset)
 }
 
+#[tactic(auto, unfolding(crate::specs::First::put_first))]
 fn put_first(ws: &mut [f64], j: usize, f: First)
     requires { (j < 32) × (frame_place (j + 1) ≤ length ws.old) }
     ensures { ws.new ≡ put_first ws.old j f }
 {
-    let frame = f.frame;
-    let velocity = f.velocity;
-    let bias = f.bias;
-    let force = f.force;
-    slots::put_frame(ws, j * layout::JOINT, frame);
-    slots::put_twist(ws, j * layout::JOINT + layout::VELOCITY, velocity);
-    slots::put_twist(ws, j * layout::JOINT + layout::BIAS, bias);
-    slots::put_wrench(ws, j * layout::JOINT + layout::FORCE, force);
+    slots::put_frame(ws, j * layout::JOINT, f.frame);
+    slots::put_twist(ws, j * layout::JOINT + layout::VELOCITY, f.velocity);
+    slots::put_twist(ws, j * layout::JOINT + layout::BIAS, f.bias);
+    slots::put_wrench(ws, j * layout::JOINT + layout::FORCE, f.force);
 }
 
 // What joint j works out, of a link with this inertia.
+#[tactic(auto, unfolding(crate::specs::First::first_at))]
 fn first_at<'a>(
     p: Plan,
     velocity: Twist,
@@ -57,16 +56,15 @@ fn first_at<'a>(
 {
     let n = p.n;
     let joint = model::joint_at(n, parents, kinds, origins, axes, j);
-    let parent = joint.parent;
-    let motion = joint.motion;
     let frame = topology::frame_at(n, parents, kinds, origins, axes, numbers, q, j);
-    let speed = topology::value_of(motion, kinds, numbers, qd, n, j);
-    let carried = parent_twist(ws, parent, velocity, layout::VELOCITY);
+    let speed = topology::value_of(joint.motion, kinds, numbers, qd, n, j);
+    let carried = parent_twist(ws, joint.parent, velocity, layout::VELOCITY);
     let load = slots::wrench_at(ws, j * layout::JOINT + layout::LOAD);
-    first::first_pass(frame, motion, speed, carried, inertia, load)
+    first::first_pass(frame, joint.motion, speed, carried, inertia, load)
 }
 
 // Joint j's numbers of the first pass, and its own link's inertia.
+#[tactic(auto, unfolding(crate::specs::First::first_visit))]
 pub fn first_visit<'a>(
     p: Plan,
     velocity: Twist,

@@ -9,11 +9,12 @@ use articulated::{first, root};
 use calls::plan::Plan;
 use forward_slots::{layout, loads};
 use numbers::quaternion::Quaternion;
-use refusals::Verdict;
+use refusals::Refusal;
 use spatial::twist::Twist;
 use spatial::wrench::Wrench;
 
 // The root's own inertia and bias force.
+#[tactic(auto, unfolding(crate::specs::Root::put_root))]
 fn put_root(n: usize, velocity: Twist, links: &[f64; 330], load: Wrench, ws: &mut [f64])
     requires { (n ≤ 32) × (room_of n ≤ length ws.old) }
     ensures { ws.new ≡ put_root n velocity links.now load ws.old }
@@ -26,6 +27,7 @@ fn put_root(n: usize, velocity: Twist, links: &[f64; 330], load: Wrench, ws: &mu
 }
 
 // What the Rust sets before its loops comes with the first visit.
+#[tactic(auto, unfolding(crate::specs::Root::begun_of))]
 pub fn begin<'a>(
     n: usize,
     velocity: Twist,
@@ -46,13 +48,14 @@ pub fn begin<'a>(
 }
 
 // A floating base, from the root's inertia and bias force.
+#[tactic(auto, unfolding(crate::specs::Root::base_at))]
 fn base_at<'a>(
     n: usize,
     rotation: Quaternion,
     velocity: Twist,
     forces: &'a [f64],
     ws: &'a [f64],
-) -> Base
+) -> Result<Base, Refusal>
     requires { (n ≤ 32) × (room_of n ≤ length ws.now) × (6 ≤ length forces.now) }
     ensures { result ≡ base_at n rotation velocity forces.now ws.now }
 {
@@ -63,54 +66,48 @@ fn base_at<'a>(
 }
 
 // The base's six results wait for the joints' like them.
+#[tactic(auto, unfolding(crate::specs::Root::floating_root, crate::specs::Root::kept_base))]
 fn floating_root<'a>(
     n: usize,
     rotation: Quaternion,
     velocity: Twist,
     forces: &'a [f64],
     ws: &mut [f64],
-) -> Verdict
+) -> Result<(), Refusal>
     requires { (n ≤ 32) × (room_of n ≤ length ws.old) × (6 ≤ length forces.now) }
     ensures { (result, ws.new) ≡ floating_root n rotation velocity forces.now ws.old }
 {
-    let b = base_at(n, rotation, velocity, forces, ws);
-    let v = b.verdict;
-    let acceleration = b.acceleration;
-    let world = b.world;
-    let Verdict::Fine = v else {
-        return v;
-    };
-    slots::put_twist(ws, n * layout::JOINT + layout::RESULTS, world);
+    let base = base_at(n, rotation, velocity, forces, ws)?;
+    slots::put_twist(ws, n * layout::JOINT + layout::RESULTS, base.world);
     slots::put_twist(
         ws,
         n * layout::JOINT + layout::ROOT_ACCELERATION,
-        acceleration,
+        base.acceleration,
     );
-    Verdict::Fine
+    Ok(())
 }
 
+#[tactic(auto, unfolding(crate::specs::Root::root_visit))]
 pub fn root_visit(
     p: Plan,
     rotation: Quaternion,
     velocity: Twist,
     forces: &[f64],
     ws: &mut [f64],
-) -> Verdict
+) -> Result<(), Refusal>
     requires { Room p (length ws.old) × (length forces.now ≡ p.side) × ((p.lead ≡ 0 → ⊥) → 6 ≤ p.side) }
     ensures { (result, ws.new) ≡ root_visit p rotation velocity forces.now ws.old }
 {
     let n = p.n;
-    let lead = p.lead;
-    let side = p.side;
-    slots::zero_part(ws, n * layout::JOINT + layout::RESULTS, side);
-    if lead == 0 {
+    slots::zero_part(ws, n * layout::JOINT + layout::RESULTS, p.side);
+    if p.lead == 0 {
         let acceleration = root::fixed_acceleration(rotation);
         slots::put_twist(
             ws,
             n * layout::JOINT + layout::ROOT_ACCELERATION,
             acceleration,
         );
-        return Verdict::Fine;
+        return Ok(());
     }
     floating_root(n, rotation, velocity, forces, ws)
 }

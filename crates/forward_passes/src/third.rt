@@ -12,10 +12,11 @@ use articulated::third;
 use calls::plan::Plan;
 use forward_slots::{layout, term};
 use numbers::double;
-use refusals::{Place, Verdict};
+use refusals::Refusal;
 use spatial::twist::Twist;
 
 // Joint j's link before the joint's own acceleration.
+#[tactic(auto, unfolding(crate::specs::Third::carried_at))]
 fn carried_at<'a>(n: usize, parents: &'a [u8; 32], ws: &'a [f64], j: usize) -> Twist
     requires { Tree n parents.now × (room_of n ≤ length ws.now) × (j < n) }
     ensures { result ≡ carried_at n parents.now j ws.now }
@@ -29,6 +30,7 @@ fn carried_at<'a>(n: usize, parents: &'a [u8; 32], ws: &'a [f64], j: usize) -> T
 }
 
 // An active joint's acceleration, tested, and its link's with it.
+#[tactic(auto, unfolding(crate::specs::Third::solved_joint, crate::specs::Third::kept_joint))]
 fn solve_joint(
     p: Plan,
     motion: Motion,
@@ -36,23 +38,26 @@ fn solve_joint(
     a: Twist,
     ws: &mut [f64],
     j: usize,
-) -> Verdict
+) -> Result<(), Refusal>
     requires { Room p (length ws.old) × (j < p.n) × (p.lead + number < p.side) }
     ensures { (result, ws.new) ≡ solved_joint p motion number a j ws.old }
 {
-    let n = p.n;
-    let lead = p.lead;
     let t = term::term_at(ws, j * layout::JOINT + layout::TERM);
     let x = third::joint_acceleration(a, t);
-    if double::is_finite(x) {
-        let moved = third::moved_by(motion, a, x);
-        slots::put_twist(ws, j * layout::JOINT + layout::ACCELERATION, moved);
-        slots::put_number(ws, n * layout::JOINT + layout::RESULTS + lead + number, x);
-        return Verdict::Fine;
+    if !double::is_finite(x) {
+        return Err(Refusal::at(36, number));
     }
-    Verdict::Refused(36, Place::At(number))
+    let moved = third::moved_by(motion, a, x);
+    slots::put_twist(ws, j * layout::JOINT + layout::ACCELERATION, moved);
+    slots::put_number(
+        ws,
+        p.n * layout::JOINT + layout::RESULTS + p.lead + number,
+        x,
+    );
+    Ok(())
 }
 
+#[tactic(auto, unfolding(crate::specs::Third::third_visit))]
 pub fn third_visit<'a>(
     p: Plan,
     parents: &'a [u8; 32],
@@ -61,20 +66,18 @@ pub fn third_visit<'a>(
     numbers: &'a [u8; 33],
     ws: &mut [f64],
     j: usize,
-) -> Verdict
+) -> Result<(), Refusal>
     requires { Fit p parents.now kinds.now numbers.now × Room p (length ws.old) × (j < p.n) }
     ensures { (result, ws.new) ≡ third_visit p parents.now kinds.now axes.now j ws.old }
 {
-    let n = p.n;
     let motion = model::motion_at(kinds, axes, j);
     let number = topology::number_at(kinds, numbers, j);
-    let a = carried_at(n, parents, ws, j);
+    let a = carried_at(p.n, parents, ws, j);
     match motion {
-        Motion::Turn(_) => solve_joint(p, motion, number, a, ws, j),
-        Motion::Slide(_) => solve_joint(p, motion, number, a, ws, j),
+        Motion::Turn(_) | Motion::Slide(_) => solve_joint(p, motion, number, a, ws, j),
         Motion::Fixed => {
             slots::put_twist(ws, j * layout::JOINT + layout::ACCELERATION, a);
-            Verdict::Fine
+            Ok(())
         }
     }
 }

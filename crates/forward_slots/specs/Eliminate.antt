@@ -1,8 +1,7 @@
 -- An active joint's terms are worked out, tested and kept (`forward_dynamics.rs`). Definitions only.
-use Rattle.std.specs.Prelude.{Bool, true, false, cond, List, ℕ, ◌+◌, get_or, Float}
+use Rattle.std.specs.Prelude.{Bool, true, false, cond, List, ℕ, ◌+◌, get_or, Float, Ok, Err}
 use Rattle.std.specs.Float.{nan}
-use Rattle.refusals.specs.declared.Verdict.{Verdict}
-use Rattle.refusals.specs.declared.Verdict.TheVariants.{Fine, Refused}
+use Rattle.refusals.specs.Refusals.{Verdict, fine}
 use Rattle.slots.specs.Slots.{wrench_at, mat6_at}
 use Rattle.arm.specs.declared.joint.Motion.{Motion}
 use Rattle.arm.specs.declared.joint.Motion.TheVariants.{Turn, Slide, Fixed}
@@ -24,13 +23,13 @@ new_term motion rotor forces j place ws = term_of motion rotor (mat6_at ws (iner
 
 -- a visit that refuses changes nothing more
 unfoldable pub unless_refused : Verdict → List Float → Verdict × List Float → Verdict × List Float
-unless_refused Fine ws done = done
-unless_refused (Refused number p) ws done = (Refused number p, ws)
+unless_refused (Ok u) ws done = done
+unless_refused (Err r) ws done = (Err r, ws)
 
 -- they are tested, then kept
 unfoldable pub kept_term : Term → ℕ → ℕ → List Float → Verdict × List Float
-kept_term t number j ws = unless_refused (judged_term t.d number) ws (Fine, put_term ws (term_place j) t)
+kept_term t number j ws = unless_refused (judged_term t.d number) ws (fine, put_term ws (term_place j) t)
 
 -- `number` is the joint's active number
 unfoldable pub eliminated : Plan → Motion → Float → ℕ → List Float → ℕ → List Float → Verdict × List Float
-eliminated p motion rotor number forces j ws = cond (fixed_by motion) (Fine, ws) (kept_term (new_term motion rotor forces j (p.lead + number) ws) number j ws)
+eliminated p motion rotor number forces j ws = cond (fixed_by motion) (fine, ws) (kept_term (new_term motion rotor forces j (p.lead + number) ws) number j ws)

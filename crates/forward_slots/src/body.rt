@@ -4,11 +4,11 @@ ghost use Rattle.forward_slots.specs.Layout.{frame_place};
 ghost use Rattle.forward_slots.specs.Body.{add_body, add_moved};
 
 use crate::layout;
-use inertia;
 use spatial::operators;
 use spatial::wrench::Wrench;
 
 // An inertia and a force are added to those at a place: the force stands behind the inertia.
+#[tactic(auto, unfolding(crate::specs::Body::add_body))]
 fn add_body(ws: &mut [f64], at: usize, moved: &[f64; 36], w: Wrench)
     requires { at + 42 ≤ length ws.old }
     ensures { ws.new ≡ add_body at moved.now w ws.old }
@@ -22,6 +22,7 @@ fn add_body(ws: &mut [f64], at: usize, moved: &[f64; 36], w: Wrench)
 }
 
 // Those of joint j's link, moved to its parent.
+#[tactic(auto, unfolding(crate::specs::Body::add_moved))]
 pub fn add_moved(ws: &mut [f64], inertia: &[f64; 36], force: Wrench, at: usize, j: usize)
     requires { (j < 32) × (frame_place (j + 1) ≤ length ws.old) × (at + 42 ≤ length ws.old) }
     ensures { ws.new ≡ add_moved inertia.now force at j ws.old }

@@ -9,17 +9,11 @@ use arm::joint::Motion;
 use articulated::second;
 use articulated::second::Term;
 use calls::plan::Plan;
-use refusals::Verdict;
+use refusals::Refusal;
 
 // Active joint j's terms, with the force at a place. U comes from the whole inertia, what the joint's own motion takes up included.
-fn new_term<'a>(
-    motion: Motion,
-    rotor: f64,
-    forces: &'a [f64],
-    ws: &'a [f64],
-    j: usize,
-    place: usize,
-) -> Term
+#[tactic(auto, unfolding(crate::specs::Eliminate::new_term))]
+fn new_term(motion: Motion, rotor: f64, forces: &[f64], ws: &[f64], j: usize, place: usize) -> Term
     requires { (j < 32) × (frame_place (j + 1) ≤ length ws.now) × (place < length forces.now) }
     ensures { result ≡ new_term motion rotor forces.now j place ws.now }
 {
@@ -30,44 +24,41 @@ fn new_term<'a>(
 }
 
 // They are tested, then kept.
-fn keep_term<'a>(
+#[tactic(auto, unfolding(crate::specs::Eliminate::kept_term, crate::specs::Eliminate::unless_refused))]
+fn keep_term(
     p: Plan,
     motion: Motion,
     rotor: f64,
     number: usize,
-    forces: &'a [f64],
+    forces: &[f64],
     ws: &mut [f64],
     j: usize,
-) -> Verdict
+) -> Result<(), Refusal>
     requires { Room p (length ws.old) × (j < p.n) × (p.lead + number < length forces.now) }
     ensures { (result, ws.new) ≡ kept_term (new_term motion rotor forces.now j (p.lead + number) ws.old) number j ws.old }
 {
-    let lead = p.lead;
-    let t = new_term(motion, rotor, forces, ws, j, lead + number);
-    let v = second::judged_term(t.d, number);
-    let Verdict::Fine = v else {
-        return v;
-    };
+    let t = new_term(motion, rotor, forces, ws, j, p.lead + number);
+    second::judged_term(t.d, number)?;
     term::put_term(ws, j * layout::JOINT + layout::TERM, t);
-    Verdict::Fine
+    Ok(())
 }
 
 // Those of a joint with an active number; a fixed one has none.
-pub fn eliminate<'a>(
+#[tactic(auto, unfolding(crate::specs::Eliminate::eliminated))]
+pub fn eliminate(
     p: Plan,
     motion: Motion,
     rotor: f64,
     number: usize,
-    forces: &'a [f64],
+    forces: &[f64],
     ws: &mut [f64],
     j: usize,
-) -> Verdict
+) -> Result<(), Refusal>
     requires { Room p (length ws.old) × (j < p.n) × ((kind_number motion ≡ 2 → ⊥) → p.lead + number < length forces.now) }
     ensures { (result, ws.new) ≡ eliminated p motion rotor number forces.now j ws.old }
 {
     match motion {
-        Motion::Turn(_) => keep_term(p, motion, rotor, number, forces, ws, j),
-        Motion::Slide(_) => keep_term(p, motion, rotor, number, forces, ws, j),
-        Motion::Fixed => Verdict::Fine,
+        Motion::Turn(_) | Motion::Slide(_) => keep_term(p, motion, rotor, number, forces, ws, j),
+        Motion::Fixed => Ok(()),
     }
 }

@@ -5,8 +5,8 @@ ghost use Rattle.forward_slots.specs.Reduced.{reduced_at, add_reduced};
 
 use crate::{body, layout, term, whole};
 use articulated::second;
-use inertia;
 
+#[tactic(auto, unfolding(crate::specs::Reduced::reduced_at))]
 pub fn inertia_at(ws: &[f64], j: usize) -> [f64; 36]
     requires { (j < 32) × (frame_place (j + 1) ≤ length ws.now) }
     ensures { result ≡ reduced_at j ws.now }
@@ -17,6 +17,7 @@ pub fn inertia_at(ws: &[f64], j: usize) -> [f64; 36]
 }
 
 // What active joint j hands on is added to the inertia and the force at a place.
+#[tactic(auto, unfolding(crate::specs::Reduced::add_reduced))]
 pub fn add_into(ws: &mut [f64], at: usize, j: usize)
     requires { (j < 32) × (frame_place (j + 1) ≤ length ws.old) × (at + 42 ≤ length ws.old) }
     ensures { ws.new ≡ add_reduced at j ws.old }

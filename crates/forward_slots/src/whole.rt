@@ -15,6 +15,7 @@ pub fn inertia_at(ws: &[f64], j: usize) -> [f64; 36]
 }
 
 // What fixed joint j hands on is added to the inertia and the force at a place.
+#[tactic(auto, unfolding(crate::specs::Whole::add_whole))]
 pub fn add_into(ws: &mut [f64], at: usize, j: usize)
     requires { (j < 32) × (frame_place (j + 1) ≤ length ws.old) × (at + 42 ≤ length ws.old) }
     ensures { ws.new ≡ add_whole at j ws.old }

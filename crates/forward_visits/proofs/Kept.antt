@@ -1,4 +1,5 @@
 -- Every visit keeps the workspace's length, and the last is the one that ends. Assumes nothing.
+use Rattle.std.specs.Prelude.{Result, Ok, Err}
 use mathlib.Core.Bool.{true, false}
 use mathlib.Core.List.{List}
 use mathlib.Core.Path.{◌≡◌, refl, ◌∙◌}
@@ -10,14 +11,15 @@ use lib.ListN.{length, length-set}
 use lib.Ieee.{Float}
 use Rattle.numbers.specs.Double.{finite}
 use Rattle.numbers.specs.declared.quaternion.Quaternion.{Quaternion}
-use Rattle.refusals.specs.declared.Verdict.{Verdict}
-use Rattle.refusals.specs.declared.Verdict.TheVariants.{Fine, Refused}
+use Rattle.refusals.specs.Refusals.{Verdict}
+use Rattle.refusals.specs.declared.Refusal.{Refusal}
 use Rattle.spatial.specs.declared.twist.Twist.{Twist}
 use Rattle.slots.proofs.Lengths.{length-put_to, length-put_twist, length-put_wrench, length-put_frame, length-zero_to}
 use Rattle.arm.specs.Model.{parent_of, motion_of, rotor_of}
 use Rattle.arm.specs.Topology.{actives_of}
 use Rattle.arm.specs.declared.joint.Motion.{Motion}
 use Rattle.arm.specs.declared.model.Model.{Model}
+use Rattle.articulated.specs.declared.root.Base.{Base}
 use Rattle.calls.specs.Position.{ended}
 use Rattle.calls.specs.declared.position.Outcome.TheVariants.{Accepted}
 use Rattle.calls.proofs.Kept.{either_way}
@@ -42,8 +44,8 @@ size e = length e.1
 
 size-unless : (v : Verdict) (ws : List Float) (done : Verdict × List Float) (l : ℕ) → length ws ≡ l → size done ≡ l → size (unless_refused v ws done) ≡ l
 unfolding unless_refused
-size-unless Fine ws done l d e = e
-size-unless (Refused number p) ws done l d e = d
+size-unless (Ok u) ws done l d e = e
+size-unless (Err r) ws done l d e = d
 
 length-loads : (loaded : List ℕ) (loads : List Float) (n : ℕ) (ws : List Float) → length (loads_to loaded loads n ws) ≡ length ws
 unfolding loads_to
@@ -80,11 +82,16 @@ size-second p parents kinds axes rotors forces j ws =
     let e = size-eliminated p motion (rotor_of rotors j) (actives_of kinds j) forces j ws in
     size-unless _ _ _ (length ws) e (length-propagated p motion (parent_of parents j) j _ ∙ e)
 
+size-base : (n : ℕ) (b : Result Base Refusal) (ws : List Float) → size (kept_base n b ws) ≡ length ws
+unfolding kept_base
+size-base n (Ok b) ws = simp length-put_twist
+size-base n (Err r) ws = refl
+
 size-root : (p : Plan) (rotation : Quaternion) (velocity : Twist) (forces ws : List Float) → size (root_visit p rotation velocity forces ws) ≡ length ws
-unfolding root_visit floating_root kept_base
+unfolding root_visit floating_root
 size-root p rotation velocity forces ws =
     let e = length-zero_to ws (results_place p.n) p.side in
-    either_way size (eqb p.lead 0) (length-put_twist _ _ _ ∙ e) (size-unless _ _ _ (length ws) e (simp length-put_twist e))
+    either_way size (eqb p.lead 0) (length-put_twist _ _ _ ∙ e) (size-base p.n _ _ ∙ e)
 
 size-third : (p : Plan) (parents kinds : List ℕ) (axes : List Float) (j : ℕ) (ws : List Float) → size (third_visit p parents kinds axes j ws) ≡ length ws
 unfolding third_visit solved_joint kept_joint
@@ -95,13 +102,13 @@ size-third p parents kinds axes j ws =
 
 last-ended : (v : Verdict) → ended (outcome_of v true) ≡ true
 unfolding outcome_of ended
-last-ended Fine = refl
-last-ended (Refused number i) = refl
+last-ended (Ok u) = refl
+last-ended (Err r) = refl
 
 other-waits : (v : Verdict) → outcome_of v false ≡ Accepted → ⊥
 unfolding outcome_of
-other-waits Fine e = let z : ◌≡◌ {A = ℕ} 0 1 = cc in omega arith
-other-waits (Refused number i) e = let z : ◌≡◌ {A = ℕ} 0 1 = cc in omega arith
+other-waits (Ok u) e = let z : ◌≡◌ {A = ℕ} 0 1 = cc in omega arith
+other-waits (Err r) e = let z : ◌≡◌ {A = ℕ} 0 1 = cc in omega arith
 
 -- ---- the visits
 

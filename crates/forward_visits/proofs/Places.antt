@@ -1,4 +1,5 @@
 -- A visit sets no place but those of the table: every other number keeps its bits. Assumes nothing.
+use Rattle.std.specs.Prelude.{Result, Ok, Err}
 use mathlib.Core.Bool.{cond}
 use mathlib.Core.List.{List, [], ◌∷◌, ◌++◌}
 use mathlib.Core.Path.{◌≡◌, refl}
@@ -8,20 +9,22 @@ use lib.Dec.{eqb, ltb}
 use lib.Ieee.{Float}
 use Rattle.numbers.specs.Double.{finite}
 use Rattle.numbers.specs.declared.quaternion.Quaternion.{Quaternion}
-use Rattle.refusals.specs.declared.Verdict.{Verdict}
-use Rattle.refusals.specs.declared.Verdict.TheVariants.{Fine, Refused}
+use Rattle.refusals.specs.Refusals.{Verdict, fine}
+use Rattle.refusals.specs.declared.Refusal.{Refusal}
 use Rattle.spatial.specs.declared.twist.Twist.{Twist}
 use Rattle.spatial.specs.declared.wrench.Wrench.{Wrench}
 use Rattle.slots.specs.Parts.{Part, part, Sets}
+use Rattle.slots.specs.Slots.{zero_to}
 use Rattle.slots.proofs.Sets.{none, here, there, then, row, choice, way}
 use Rattle.slots.proofs.Blocks.{Outside, wider, both, set-outside, put_twist-outside, put_wrench-outside, put_frame-outside, put_to-outside, zero_to-outside}
 use Rattle.arm.specs.Model.{parent_of, motion_of, rotor_of}
 use Rattle.arm.specs.Topology.{actives_of}
 use Rattle.arm.specs.declared.joint.Motion.{Motion}
 use Rattle.arm.specs.declared.model.Model.{Model}
+use Rattle.articulated.specs.declared.root.Base.{Base}
 use Rattle.articulated.specs.declared.second.Term.{Term}
 use Rattle.calls.specs.declared.plan.Plan.{Plan}
-use Rattle.forward_slots.specs.Layout.{inertia_place, force_place, root_inertia_place, root_force_place}
+use Rattle.forward_slots.specs.Layout.{inertia_place, force_place, root_inertia_place, root_force_place, root_acceleration_place, results_place}
 use Rattle.forward_slots.specs.Loads.{loads_to}
 use Rattle.forward_slots.specs.Eliminate.{fixed_by, unless_refused, kept_term, eliminated}
 use Rattle.forward_slots.specs.Term.{put_term}
@@ -49,10 +52,10 @@ abbrev same : List Float → List Float
 same ws = ws
 
 -- a visit that refuses sets fewer
-unless : (v : Verdict) {parts : List Part} {s ws done : List Float} → Sets parts s ws → Sets parts s done → Sets parts s (unless_refused v ws (Fine, done)).1
+unless : (v : Verdict) {parts : List Part} {s ws done : List Float} → Sets parts s ws → Sets parts s done → Sets parts s (unless_refused v ws (fine, done)).1
 unfolding unless_refused
-unless Fine d e = e
-unless (Refused number p) d e = d
+unless (Ok u) d e = e
+unless (Err r) d e = d
 
 -- ---- the first visit and the first pass
 
@@ -111,13 +114,18 @@ second-sets p parents kinds axes rotors forces j ws =
 
 -- ---- the root and the third pass
 
+base-sets : (p : Plan) (b : Result Base Refusal) (ws : List Float)
+    → Sets (part (results_place p.n) p.side ∷ part (results_place p.n) 6 ∷ part (root_acceleration_place p.n) 6 ∷ []) ws (kept_base p.n b (zero_to ws (results_place p.n) p.side)).1
+unfolding kept_base
+base-sets p (Ok b) ws = then (here (zero_to-outside _ _ p.side)) (then (there (here (put_twist-outside _ _ _))) (there (there (here (put_twist-outside _ _ _)))))
+base-sets p (Err r) ws = here (zero_to-outside _ _ p.side)
+
 root-sets : (p : Plan) (rotation : Quaternion) (velocity : Twist) (forces ws : List Float) → Sets (root_parts p) ws (root_visit p rotation velocity forces ws).1
-unfolding root_parts root_visit floating_root kept_base
+unfolding root_parts root_visit floating_root
 root-sets p rotation velocity forces ws =
     way left (eqb p.lead 0)
     (then (here (zero_to-outside _ _ p.side)) (there (here (put_twist-outside _ _ _))))
-    (unless _ (here (zero_to-outside _ _ p.side))
-    (then (here (zero_to-outside _ _ p.side)) (then (there (here (put_twist-outside _ _ _))) (there (there (here (put_twist-outside _ _ _)))))))
+    (base-sets p _ ws)
 
 third-sets : (p : Plan) (parents kinds : List ℕ) (axes : List Float) (j : ℕ) (ws : List Float)
     → Sets (third_parts p (motion_of kinds axes j) (actives_of kinds j) j) ws (third_visit p parents kinds axes j ws).1

@@ -1,9 +1,7 @@
 -- The visits of forward dynamics, on any workspace numbers (document 01, "Visits"). Definitions only.
-use Rattle.std.specs.Prelude.{Bool, cond, List, ℕ, ◌+◌, ◌-◌, eqb, ltb, Float}
+use Rattle.std.specs.Prelude.{Bool, cond, List, ℕ, ◌+◌, ◌-◌, eqb, ltb, Float, Ok, Err}
 use Rattle.numbers.specs.declared.quaternion.Quaternion.{Quaternion}
-use Rattle.refusals.specs.declared.Verdict.{Verdict}
-use Rattle.refusals.specs.declared.Verdict.TheVariants.{Fine}
-use Rattle.refusals.specs.declared.Verdict.TheVariants as verdict
+use Rattle.refusals.specs.Refusals.{Verdict, fine}
 use Rattle.spatial.specs.declared.twist.Twist.{Twist}
 use Rattle.arm.specs.Model.{bundle}
 use Rattle.arm.specs.declared.model.Model.{Model}
@@ -18,14 +16,14 @@ use Rattle.forward_visits.specs.Inputs.{Inputs}
 
 -- the last visit accepts
 unfoldable pub outcome_of : Verdict → Bool → Outcome
-outcome_of Fine last = cond last Accepted Open
-outcome_of (verdict.Refused number p) last = Refused number p
+outcome_of (Ok u) last = cond last Accepted Open
+outcome_of (Err r) last = Refused r
 
 -- visit `at`, after what the first brings: joints rising, joints falling, the root, joints rising
 unfoldable pub pass_visit : Plan → Quaternion → Twist → Model → List Float → List Float → List Float → ℕ → List Float → Verdict × List Float
 pass_visit p rotation velocity m q qd forces at ws =
     let n = p.n in
-    cond (ltb at n) (Fine, first_visit velocity m.parents m.kinds m.origins m.axes m.links q qd at ws)
+    cond (ltb at n) (fine, first_visit velocity m.parents m.kinds m.origins m.axes m.links q qd at ws)
     (cond (ltb at (n + n)) (second_visit p m.parents m.kinds m.axes m.rotors forces (n + n - 1 - at) ws)
     (cond (eqb at (n + n)) (root_visit p rotation velocity forces ws)
     (third_visit p m.parents m.kinds m.axes (at - (n + n) - 1) ws)))

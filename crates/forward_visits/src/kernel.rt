@@ -11,25 +11,23 @@ use calls::plan::Plan;
 use calls::position::Outcome;
 use forward_passes::{first, root, second, third};
 use numbers::quaternion::Quaternion;
-use refusals::Verdict;
+use refusals::Refusal;
 use spatial::twist::Twist;
 
 // The last visit accepts.
-fn outcome(v: Verdict, last: bool) -> Outcome
+#[tactic(auto, unfolding(crate::specs::Kernel::outcome_of))]
+fn outcome(v: Result<(), Refusal>, last: bool) -> Outcome
     ensures { result ≡ outcome_of v last }
 {
     match v {
-        Verdict::Refused(number, place) => Outcome::Refused(number, place),
-        Verdict::Fine => {
-            if last {
-                return Outcome::Accepted;
-            }
-            Outcome::Open
-        }
+        Err(refusal) => Outcome::Refused(refusal),
+        Ok(()) if last => Outcome::Accepted,
+        Ok(()) => Outcome::Open,
     }
 }
 
 // Visit `at`, after what the first brings.
+#[tactic(auto, unfolding(crate::specs::Kernel::pass_visit))]
 fn pass<'a>(
     p: Plan,
     rotation: Quaternion,
@@ -46,7 +44,7 @@ fn pass<'a>(
     forces: &'a [f64],
     ws: &mut [f64],
     at: usize,
-) -> Verdict
+) -> Result<(), Refusal>
     requires { Fit p parents.now kinds.now numbers.now × Room p (length ws.old) × (length q.now ≡ actives_of kinds.now p.n) × (length qd.now ≡ actives_of kinds.now p.n) × (length forces.now ≡ p.side) × (at ≤ p.n + p.n + p.n) }
     ensures { (result, ws.new) ≡ pass_visit p rotation velocity (bundle p.n parents.now kinds.now origins.now axes.now links.now rotors.now) q.now qd.now forces.now at ws.old }
 {
@@ -55,7 +53,7 @@ fn pass<'a>(
         first::first_visit(
             p, velocity, parents, kinds, origins, axes, links, numbers, q, qd, ws, at,
         );
-        return Verdict::Fine;
+        return Ok(());
     }
     if at < n + n {
         return second::second_visit(
@@ -77,6 +75,7 @@ fn pass<'a>(
 }
 
 // Visit `at`.
+#[tactic(auto, unfolding(crate::specs::Kernel::visit_of))]
 pub fn visit<'a>(
     p: Plan,
     rotation: Quaternion,

@@ -1,24 +1,32 @@
--- Horner's rule on the rest of a list, one coefficient more at a time. Assumes nothing.
-use mathlib.Core.Path.{◌≡◌, sym, ap, ◌∙◌}
-use mathlib.Core.List.{List, ◌∷◌}
-use Prim.Native.Nat.{ℕ, suc, ◌≤◌, ◌<◌}
-use native.Mathlib.Nat.{le_trans}
-use native.Mathlib.Omega.{arith}
-use lib.ListN.{length, get_or, drop}
-use lib.Seq.{drop-cons, drop-length}
-use lib.Ieee.{Float, nan, binary64, add, mul}
+-- Horner's rule goes through the coefficients from the last to the first. Assumes nothing.
+use Rattle.std.proofs.Common.{◌≡◌, refl, ap, ◌∙◌, List, [], ◌∷◌, ◌++◌, reverse, Option, Some, None}
+use Rattle.std.proofs.lemmas.List.Sums.{fold-append}
+use Rattle.std.proofs.lemmas.Grind.{reverse_onto}
+use Rattle.std.specs.List.{reduce}
+use Rattle.std.specs.Option.{unwrap_or}
+use Rattle.numbers.specs.Double.{◌⊕◌, ◌⊗◌}
+use lib.Ieee.{Float, nan, of_bits, binary64}
 use Rattle.half_turn.specs.HalfTurn.{horner_of}
 
-pub last : (c : List Float) (z : Float) (i : ℕ) → i < length c → length c ≡ suc i → get_or c i nan ≡ horner_of (drop i c) z
-unfolding horner_of
-last c z i h k = sym (ap (λ (l : List Float). horner_of l z) (drop-cons c i nan h ∙ ap (λ (l : List Float). get_or c i nan ∷ l) (ap (λ (n : ℕ). drop n c) (sym k) ∙ drop-length c)))
+module _ {A : Type 0} (f : A → A → A) where
+  with_one : Option A → A → A
+  with_one None y = y
+  with_one (Some p) y = f p y
 
-pub step : (c : List Float) (z : Float) (i : ℕ) → suc i < length c → add binary64 (get_or c i nan) (mul binary64 z (horner_of (drop (suc i) c) z)) ≡ horner_of (drop i c) z
-unfolding horner_of
-step c z i h =
-    let e = drop-cons c (suc i) nan h in
-    ap (λ (l : List Float). add binary64 (get_or c i nan) (mul binary64 z (horner_of l z))) e
-    ∙ sym (ap (λ (l : List Float). horner_of l z) (drop-cons c i nan (le_trans (le c i h) h) ∙ ap (λ (l : List Float). get_or c i nan ∷ l) e))
-  where
-    le : (c : List Float) (i : ℕ) → suc i < length c → suc i ≤ suc (suc i)
-    le c i h = omega arith
+  reduce-push : (xs : List A) (y : A) → reduce f (xs ++ y ∷ []) ≡ Some (with_one (reduce f xs) y)
+  unfolding with_one
+  reduce-push [] y = refl
+  reduce-push (x ∷ xs) y = ap Some (fold-append f x xs (y ∷ []))
+
+module _ (z : Float) where
+  some : (c : Float) (cs : List Float) → reduce (λ p x. x ⊕ z ⊗ p) (reverse (c ∷ cs)) ≡ Some (horner_of (c ∷ cs) z)
+  unfolding horner_of with_one
+  some c [] = refl
+  some c (d ∷ cs) =
+      let f = λ (p : Float) (x : Float). x ⊕ z ⊗ p in
+      ap (reduce f) (reverse_onto (d ∷ cs) c []) ∙ reduce-push f (reverse (d ∷ cs)) c ∙ ap (λ (r : Option Float). Some (with_one f r c)) (some d cs)
+
+  pub from_last : (cs : List Float) → unwrap_or (reduce (λ p x. x ⊕ z ⊗ p) (reverse cs)) (of_bits binary64 9221120237041090560) ≡ horner_of cs z
+  unfolding horner_of of_bits
+  from_last [] = refl
+  from_last (c ∷ cs) = ap (λ (r : Option Float). unwrap_or r nan) (some c cs)

@@ -1,12 +1,10 @@
 -- Sine and cosine of half an angle, from the power series, in doubles (document 01, "Number rules"; document 02, item 6). Definitions only.
-use Rattle.std.specs.Prelude.{List, [], ◌∷◌, Bool, true, false, not, cond, ◌&&◌, ◌≡◌, ℕ, zero, suc, ◌+◌, ◌-◌, ◌*◌, ◌%◌, ℤ, pos, negsuc, neg_ℤ, eqb, ltb}
+use Rattle.std.specs.Prelude.{List, [], ◌∷◌, Bool, true, false, not, cond, ◌&&◌, ◌≡◌, ℕ, zero, suc, ◌+◌, ◌-◌, ◌*◌, ◌%◌, ℤ, pos, negsuc, neg_ℤ, eqb, ltb, Option, Some, None}
 use lib.Ieee.{Float, nan, inf, fin, binary64, round, neg, le, up, down, of_int}
 use Rattle.std.specs.Float.Ieee.Nearest.{closest}
 use Rattle.numbers.specs.Double.{◌⊕◌, ◌⊖◌, ◌⊗◌, bits, 0·5, 1·0}
 use Rattle.half_turn.specs.declared.Turns.{Turns}
 use Rattle.half_turn.specs.declared.SinCos.{SinCos}
-use Rattle.half_turn.specs.declared.HalfTurn.{HalfTurn}
-use Rattle.half_turn.specs.declared.HalfTurn.TheVariants.{Of, OutOfRange}
 
 -- ---- the whole number nearest a double, ties to even
 
@@ -137,16 +135,16 @@ unfoldable pub sin_cos_of : Float → SinCos
 unfolding sin_cos_by reduced_of
 sin_cos_of q = sin_cos_by (reduced_of q) q
 
-unfoldable pub half_turn_of : Float → HalfTurn
+unfoldable pub half_turn_of : Float → Option SinCos
 unfolding sin_cos_of
-half_turn_of q = cond (in_range q) (Of (sin_cos_of q)) OutOfRange
+half_turn_of q = cond (in_range q) (Some (sin_cos_of q)) None
 
 -- what each answer says of q: these are its sine and cosine, or q is "out of range"
-unfoldable pub HalfTurnIs : Float → HalfTurn → Type 0
-HalfTurnIs q (Of v) = (in_range q ≡ true) × (v ≡ sin_cos_of q)
-HalfTurnIs q OutOfRange = in_range q ≡ false
+unfoldable pub HalfTurnIs : Float → Option SinCos → Type 0
+HalfTurnIs q (Some v) = (in_range q ≡ true) × (v ≡ sin_cos_of q)
+HalfTurnIs q None = in_range q ≡ false
 
 -- ---- document 01's half turn, kept for the law that its answers stand (proofs/Kept.antt): two steps for every angle, and a limit of 1024
-unfoldable pub first_half_turn_of : Float → HalfTurn
+unfoldable pub first_half_turn_of : Float → Option SinCos
 unfolding sin_cos_by two_steps_of
-first_half_turn_of q = cond (within (of_nat two_step_limit) q) (Of (sin_cos_by two_steps_of q)) OutOfRange
+first_half_turn_of q = cond (within (of_nat two_step_limit) q) (Some (sin_cos_by two_steps_of q)) None

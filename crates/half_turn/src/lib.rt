@@ -17,12 +17,6 @@ pub struct SinCos {
     pub cos: f64,
 }
 
-#[derive(Clone, Copy)]
-pub enum HalfTurn {
-    Of(SinCos),
-    OutOfRange,
-}
-
 // -1/3!, 1/5!, .., 1/17! and -1/2!, 1/4!, .., 1/16!, each rounded once.
 const SIN: [f64; 8] = [
     -0.16666666666666666,
@@ -69,25 +63,22 @@ fn nearest(x: f64) -> Turns
     ensures { result ≡ turns_of x }
 {
     let y = x + 6755399441055744.0;
-    let b = f64::to_bits(y);
+    let b = y.to_bits();
     Turns {
         whole: y - 6755399441055744.0,
         quarter: b % 4,
     }
 }
 
-// c[0] + z * (c[1] + z * (c[2] + ..)).
+// c[0] + z * (c[1] + z * (c[2] + ..)); of no coefficients, NaN.
 fn horner(c: &[f64], z: f64) -> f64
-    requires { 0 < length c.now }
     ensures { result ≡ horner_of c.now z }
 {
-    let mut i = c.len() - 1;
-    let mut p = c[i];
-    while 0 < i {
-        i -= 1;
-        p = c[i] + z * p;
-    }
-    p
+    c.iter()
+        .rev()
+        .copied()
+        .reduce(|p, x| x + z * p)
+        .unwrap_or(f64::NAN)
 }
 
 fn series(r: f64) -> SinCos
@@ -100,27 +91,24 @@ fn series(r: f64) -> SinCos
     }
 }
 
+#[tactic(auto, unfolding(crate::specs::HalfTurn::placed_of))]
 fn placed(v: SinCos, n: u64) -> SinCos
     ensures { result ≡ placed_of v n }
 {
-    if n == 0 {
-        return v;
-    }
-    if n == 1 {
-        return SinCos {
+    match n {
+        0 => v,
+        1 => SinCos {
             sin: v.cos,
             cos: -v.sin,
-        };
-    }
-    if n == 2 {
-        return SinCos {
+        },
+        2 => SinCos {
             sin: -v.sin,
             cos: -v.cos,
-        };
-    }
-    SinCos {
-        sin: -v.cos,
-        cos: v.sin,
+        },
+        _ => SinCos {
+            sin: -v.cos,
+            cos: v.sin,
+        },
     }
 }
 
@@ -128,10 +116,7 @@ fn placed(v: SinCos, n: u64) -> SinCos
 fn within(b: f64, q: f64) -> bool
     ensures { result ≡ within b q }
 {
-    if q <= b {
-        return -b <= q;
-    }
-    false
+    q <= b && -b <= q
 }
 
 // h less n quarter turns; q is 2 * h.
@@ -152,14 +137,14 @@ pub fn in_range(q: f64) -> bool
     within(TURN_LIMIT, q)
 }
 
-// Sine and cosine of q * 0.5.
-pub fn half_turn(q: f64) -> HalfTurn
+// Sine and cosine of q * 0.5. Out of range there is no answer.
+pub fn half_turn(q: f64) -> Option<SinCos>
     ensures { (result ≡ half_turn_of q) × HalfTurnIs q result }
 {
     if in_range(q) {
         let h = q * 0.5;
         let t = nearest(h * K);
-        return HalfTurn::Of(placed(series(reduced(q, h, t.whole)), t.quarter));
+        return Some(placed(series(reduced(q, h, t.whole)), t.quarter));
     }
-    HalfTurn::OutOfRange
+    None
 }

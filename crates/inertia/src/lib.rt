@@ -1,7 +1,7 @@
 // Inertias of bodies as 6×6 matrices, angular first (`forward_dynamics.rs`).
 #![tactic(auto)]
 
-ghost use Rattle.std.specs.Prelude.{◌≡◌, ◌+◌, ◌*◌, ◌≤◌, ◌<◌, length, take};
+ghost use Rattle.std.specs.Prelude.{◌≡◌, ◌+◌, ◌≤◌, ◌<◌};
 ghost use Rattle.spatial.specs.Wrench.{vector_of};
 ghost use Rattle.inertia.specs.Inertia.{block_of, from_blocks, rigid_of, inertia_apply, row_part, columns_of, signed_column, unit, along_of, inertia_apply_joint, subspace_of, moved_of, inertia_to_parent, reduce_of, average_of};
 
@@ -41,6 +41,7 @@ fn block(m: &[f64; 36], i: usize, j: usize) -> Mat3
 }
 
 // a b above c d.
+#[tactic(auto, unfolding(crate::specs::Inertia::from_blocks))]
 fn from_blocks(a: Mat3, b: Mat3, c: Mat3, d: Mat3) -> [f64; 36]
     ensures { result ≡ from_blocks a b c d }
 {
@@ -55,6 +56,7 @@ fn from_blocks(a: Mat3, b: Mat3, c: Mat3, d: Mat3) -> [f64; 36]
     ]
 }
 
+#[tactic(auto, unfolding(crate::specs::Inertia::rigid_of))]
 pub fn rigid_body_inertia(mass: f64, moment: Vec3, inertia: Mat3) -> [f64; 36]
     ensures { result ≡ rigid_of mass moment inertia }
 {
@@ -67,6 +69,7 @@ pub fn rigid_body_inertia(mass: f64, moment: Vec3, inertia: Mat3) -> [f64; 36]
     )
 }
 
+#[tactic(auto, unfolding(crate::specs::Inertia::inertia_apply))]
 pub fn inertia_apply(m: &[f64; 36], motion: Twist) -> Wrench
     ensures { result ≡ inertia_apply m.now motion }
 {
@@ -76,6 +79,7 @@ pub fn inertia_apply(m: &[f64; 36], motion: Twist) -> Wrench
 }
 
 // Row i of the three columns from o, times the axis.
+#[tactic(auto, unfolding(crate::specs::Inertia::row_part))]
 fn part(m: &[f64; 36], i: usize, o: usize, a: Vec3) -> f64
     requires { (i < 6) × (o ≤ 3) }
     ensures { result ≡ row_part m.now i o a }
@@ -83,6 +87,7 @@ fn part(m: &[f64; 36], i: usize, o: usize, a: Vec3) -> f64
     m[i * 6 + o] * a.x + m[i * 6 + (o + 1)] * a.y + m[i * 6 + (o + 2)] * a.z
 }
 
+#[tactic(auto, unfolding(crate::specs::Inertia::columns_of))]
 fn columns(m: &[f64; 36], o: usize, a: Vec3) -> Wrench
     requires { o ≤ 3 }
     ensures { result ≡ columns_of m.now o a }
@@ -101,6 +106,7 @@ fn columns(m: &[f64; 36], o: usize, a: Vec3) -> Wrench
 }
 
 // Column j, times the sign.
+#[tactic(auto, unfolding(crate::specs::Inertia::signed_column))]
 fn column(m: &[f64; 36], j: usize, s: f64) -> Wrench
     requires { j < 6 }
     ensures { result ≡ signed_column m.now j s }
@@ -119,13 +125,15 @@ fn column(m: &[f64; 36], j: usize, s: f64) -> Wrench
 }
 
 // s is exactly 1 or -1, and the others are zeros.
+#[tactic(auto, unfolding(crate::specs::Inertia::unit))]
 fn is_unit(s: f64, a: f64, b: f64) -> bool
     ensures { result ≡ unit s a b }
 {
-    double::both(double::abs(s) == 1.0, double::both(a == 0.0, b == 0.0))
+    double::abs(s) == 1.0 && a == 0.0 && b == 0.0
 }
 
 // The three columns from o times the axis. Only an exact cardinal axis takes one column alone.
+#[tactic(auto, unfolding(crate::specs::Inertia::along_of))]
 fn along(m: &[f64; 36], o: usize, a: Vec3) -> Wrench
     requires { o ≤ 3 }
     ensures { result ≡ along_of m.now o a }
@@ -142,6 +150,7 @@ fn along(m: &[f64; 36], o: usize, a: Vec3) -> Wrench
     columns(m, o, a)
 }
 
+#[tactic(auto, unfolding(crate::specs::Inertia::inertia_apply_joint))]
 pub fn inertia_apply_joint(m: &[f64; 36], motion: Motion) -> Wrench
     ensures { result ≡ inertia_apply_joint m.now motion }
 {
@@ -152,6 +161,7 @@ pub fn inertia_apply_joint(m: &[f64; 36], motion: Motion) -> Wrench
     }
 }
 
+#[tactic(auto, unfolding(crate::specs::Inertia::subspace_of))]
 pub fn joint_motion_subspace(motion: Motion) -> Twist
     ensures { result ≡ subspace_of motion }
 {
@@ -177,6 +187,7 @@ pub fn joint_motion_subspace(motion: Motion) -> Twist
 }
 
 // The blocks, turned already, moved by the translation whose cross matrix is p.
+#[tactic(auto, unfolding(crate::specs::Inertia::moved_of))]
 fn moved(p: Mat3, angular: Mat3, coupling: Mat3, linear: Mat3) -> [f64; 36]
     ensures { result ≡ moved_of p angular coupling linear }
 {
@@ -192,6 +203,7 @@ fn moved(p: Mat3, angular: Mat3, coupling: Mat3, linear: Mat3) -> [f64; 36]
     )
 }
 
+#[tactic(auto, unfolding(crate::specs::Inertia::inertia_to_parent, numbers::specs::Mat3::turned_of))]
 pub fn transform_inertia_to_parent(frame: Frame, m: &[f64; 36]) -> [f64; 36]
     ensures { result ≡ inertia_to_parent frame m.now }
 {
@@ -208,44 +220,19 @@ pub fn transform_inertia_to_parent(frame: Frame, m: &[f64; 36]) -> [f64; 36]
     )
 }
 
-// Row i, where those before it stand.
-fn reduced_row(n: &mut [f64; 36], m: &[f64; 36], u: &[f64; 6], d: f64, i: usize)
-    requires { (i < 6) × (length n.old ≡ 36) × (take (i * 6) n.old ≡ take (i * 6) (reduce_of m.now u.now d)) }
-    ensures { (length n.new ≡ 36) × (take ((i + 1) * 6) n.new ≡ take ((i + 1) * 6) (reduce_of m.now u.now d)) }
-{
-    let mut j: usize = 0;
-    while j < 6 {
-        let t = i * 6 + j;
-        n[t] = m[t] - (u[i] * u[j]) / d;
-        j += 1;
-    }
-}
-
 // m - (u uᵀ) / d.
 pub fn reduce(m: &[f64; 36], u: Wrench, d: f64) -> [f64; 36]
     ensures { result ≡ reduce_of m.now (vector_of u) d }
 {
     let v = u.to_vector();
     let mut n = [0.0; 36];
-    let mut i: usize = 0;
-    while i < 6 {
-        reduced_row(&mut n, m, &v, d, i);
-        i += 1;
+    for i in 0..6 {
+        for j in 0..6 {
+            let t = i * 6 + j;
+            n[t] = m[t] - (v[i] * v[j]) / d;
+        }
     }
     n
-}
-
-// Row i, where those before it stand.
-fn average_row(n: &mut [f64; 36], m: &[f64; 36], i: usize)
-    requires { (i < 6) × (length n.old ≡ 36) × (take (i * 6) n.old ≡ take (i * 6) (average_of m.now)) }
-    ensures { (length n.new ≡ 36) × (take ((i + 1) * 6) n.new ≡ take ((i + 1) * 6) (average_of m.now)) }
-{
-    let mut j: usize = 0;
-    while j < 6 {
-        let t = i * 6 + j;
-        n[t] = m[t] * 0.5 + m[j * 6 + i] * 0.5;
-        j += 1;
-    }
 }
 
 // m * 0.5 + mᵀ * 0.5.
@@ -253,10 +240,11 @@ pub fn average(m: &[f64; 36]) -> [f64; 36]
     ensures { result ≡ average_of m.now }
 {
     let mut n = [0.0; 36];
-    let mut i: usize = 0;
-    while i < 6 {
-        average_row(&mut n, m, i);
-        i += 1;
+    for i in 0..6 {
+        for j in 0..6 {
+            let t = i * 6 + j;
+            n[t] = m[t] * 0.5 + m[j * 6 + i] * 0.5;
+        }
     }
     n
 }

@@ -6,8 +6,8 @@ use native.Mathlib.Omega.{arith}
 use lib.ListN.{length, drop, length-append}
 use lib.Seq.{drop-append-add}
 use borrow.Author.Tests.{le-ltb, le-leb}
-use Rattle.refusals.specs.declared.Verdict.{Verdict}
-use Rattle.refusals.specs.declared.Verdict.TheVariants.{Fine, Refused}
+use Rattle.std.specs.Prelude.{Ok, Err}
+use Rattle.refusals.specs.Refusals.{Verdict}
 use Rattle.log_reading.specs.Log.{trailer_in, is_distance, head_verdict, first_of, samples_in, read_verdict, reading_by, log_in, reading_of, samples_at}
 use Rattle.log_reading.specs.declared.Log.{Log}
 use Rattle.log_reading.specs.declared.Trailer.{Trailer}
@@ -48,8 +48,8 @@ module _ (lead s : List ℕ) (long : 16 ≤ length s) where
 
     by : (v : Verdict) → reading_by v (log_in (lead ++ s) t) ≡ moved (length lead) (reading_by v (log_in s t))
     unfolding reading_by moved
-    by Fine = rw further
-    by (Refused number p) = refl
+    by (Ok u) = rw further
+    by (Err r) = refl
 
   -- refusals too: at least 16 bytes, whose distance lies within them
   pub lead-in : (trailer_in s).distance ≤ length s → reading_of (lead ++ s) ≡ moved (length lead) (reading_of s)

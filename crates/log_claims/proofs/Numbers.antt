@@ -12,8 +12,8 @@ use lib.Seq.{take_at, drop_at, get_or-drop, length-take-le, take-add}
 use lib.Ieee.{Float, nan, inf, fin, binary64, fits, is_nan, to_bits}
 use lib.Ieee.Bits.{of_bits-to_bits, to_bits-lt, to_bits-of_bits}
 use Rattle.numbers.specs.Double.{finite, finite_to, all_finite}
-use Rattle.refusals.specs.declared.Place.TheVariants.{At}
-use Rattle.refusals.specs.declared.Verdict.TheVariants.{Fine, Refused}
+use Rattle.std.specs.Prelude.{Some}
+use Rattle.refusals.specs.Refusals.{fine, refused}
 use Rattle.refusals.proofs.Verdicts.{both-fine, never}
 use Rattle.little_endian.specs.Bytes.{number_of, bytes_of, double_of, doubles_of, doubles_bytes}
 use Rattle.little_endian.proofs.Laws.{length-bytes, length-doubles}
@@ -141,15 +141,15 @@ sample-again a l h f e =
     rw (z, m) (doubles-again (3 * a) l (omega (arith, m)) f (λ k j. each-to (doubles_of (3 * a) l) (length (doubles_of (3 * a) l)) k g j))
 
 -- a sample that is fine is finite
-one-fine : (i : ℕ) (x : Sample) → sample_verdict i x ≡ Fine → all_finite x.numbers ≡ true
+one-fine : (i : ℕ) (x : Sample) → sample_verdict i x ≡ fine → all_finite x.numbers ≡ true
 unfolding sample_verdict
 one-fine i x e = go (all_finite x.numbers) e
   where
-    go : (b : Bool) → cond b Fine (Refused 55 (At i)) ≡ Fine → b ≡ true
+    go : (b : Bool) → cond b fine (refused 55 (Some i)) ≡ fine → b ≡ true
     go true e = refl
-    go false e = never 55 (At i) e
+    go false e = never _ e
 
-pub samples-again : (a i k : ℕ) (l : List ℕ) → size_of a * k ≤ length l → Bytes l → samples_verdict i (samples_of (size_of a) a k l) ≡ Fine
+pub samples-again : (a i k : ℕ) (l : List ℕ) → size_of a * k ≤ length l → Bytes l → samples_verdict i (samples_of (size_of a) a k l) ≡ fine
     → samples_bytes (samples_of (size_of a) a k l) ≡ take (size_of a * k) l
 unfolding samples_of samples_bytes samples_verdict
 samples-again a i zero l h f e = rw (mul-zero (size_of a))

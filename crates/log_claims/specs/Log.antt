@@ -1,10 +1,9 @@
 -- What the laws of the transfer log speak of. Definitions only.
-use Rattle.std.specs.Prelude.{List, [], ◌++◌, ◌∷◌, ℕ, ◌+◌, ◌<◌, T, get_or, Float}
+use Rattle.std.specs.Prelude.{List, [], ◌++◌, ◌∷◌, ℕ, ◌+◌, ◌<◌, T, get_or, Ok, Err, Float}
 use Rattle.std.specs.Float.{nan, binary64}
 use Rattle.std.specs.Float.Ieee.{fits}
 use Rattle.log_samples.specs.Sample.{Sample}
-use Rattle.log_reading.specs.declared.Reading.{Reading}
-use Rattle.log_reading.specs.declared.Reading.TheVariants.{Accepted, Refused}
+use Rattle.log_reading.specs.Log.{Reading}
 
 -- what a slice of bytes holds, and one of doubles
 abbrev pub Bytes : List ℕ → Type 0
@@ -24,5 +23,5 @@ joined (x ∷ l) = x.numbers ++ joined l
 
 -- the same reading, with the first sample n bytes further on
 unfoldable pub moved : ℕ → Reading → Reading
-moved n (Accepted g) = Accepted (record { a = g.a; count = g.count; first = n + g.first })
-moved n (Refused number p) = Refused number p
+moved n (Ok g) = Ok (record { a = g.a; count = g.count; first = n + g.first })
+moved n (Err r) = Err r

@@ -7,7 +7,7 @@ use native.Mathlib.Omega.{arith}
 use lib.ListN.{length}
 use lib.Ieee.{Float}
 use Rattle.numbers.specs.declared.quaternion.Quaternion.{Quaternion}
-use Rattle.refusals.specs.declared.Verdict.TheVariants.{Fine}
+use Rattle.refusals.specs.Refusals.{fine}
 use Rattle.refusals.proofs.Verdicts.{plain-fine, both-fine}
 use Rattle.arm.specs.Model.{Good, wild_of}
 use Rattle.arm.specs.Topology.{actives_of, active_numbers}
@@ -24,7 +24,7 @@ roomy : (floating : Bool) (n : ℕ) (parents kinds : List ℕ) (ws : ℕ) → Go
 unfolding plan_by
 roomy floating n parents kinds ws good h = record { few = good.tree.few; small = omega (arith, side-most floating n parents kinds good, good.tree.few); room = h }
 
-module _ (floating : Bool) (r : Quaternion) (n : ℕ) (parents kinds : List ℕ) (q : List Float) (ws out : ℕ) (v : inputs_verdict floating r n parents kinds q ws out ≡ Fine) where
+module _ (floating : Bool) (r : Quaternion) (n : ℕ) (parents kinds : List ℕ) (q : List Float) (ws out : ℕ) (v : inputs_verdict floating r n parents kinds q ws out ≡ fine) where
   pub passed-good : Good n parents kinds
   unfolding inputs_verdict
   passed-good = tame n parents kinds (plain-fine 9 (wild_of n parents kinds) (both-fine _ _ v).0)

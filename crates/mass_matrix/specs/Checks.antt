@@ -1,8 +1,7 @@
 -- The checks of a mass matrix's call to 22 (document 01, "Checks"). Definitions only.
 use Rattle.std.specs.Prelude.{Bool, not, ◌&&◌, List, ℕ, ◌+◌, ◌*◌, eqb, ltb, Float}
 use Rattle.numbers.specs.declared.quaternion.Quaternion.{Quaternion}
-use Rattle.refusals.specs.Refusals.{plain_of, or_else}
-use Rattle.refusals.specs.declared.Verdict.{Verdict}
+use Rattle.refusals.specs.Refusals.{plain_of, or_else, Verdict}
 use Rattle.arm.specs.Model.{wild_of}
 use Rattle.calls.specs.Checks.{values_verdict, turns_verdict, bad_rotation}
 use Rattle.calls.specs.Plan.{plan_of}

@@ -6,12 +6,11 @@ ghost use Rattle.mass_matrix.specs.Checks.{rest_verdict, tame_verdict, inputs_ve
 use arm::{model, topology};
 use calls::{checks, plan};
 use composites::plan as places;
-use numbers::double;
 use numbers::quaternion::Quaternion;
-use refusals;
-use refusals::{Place, Verdict};
+use refusals::Refusal;
 
 // 13, 17 and 22.
+#[tactic(auto, unfolding(crate::specs::Checks::rest_verdict, refusals::specs::Refusals::plain_of, refusals::specs::Refusals::or_else))]
 fn judged_rest<'a>(
     n: usize,
     side: usize,
@@ -21,17 +20,17 @@ fn judged_rest<'a>(
     numbers: &'a [u8; 33],
     q: &'a [f64],
     out: usize,
-) -> Verdict
+) -> Result<(), Refusal>
     requires { (numbers.now ≡ active_numbers kinds.now) × (n ≤ 32) × (side ≤ 38) × (length q.now ≡ actives_of kinds.now n) }
     ensures { result ≡ rest_verdict n side floating r kinds.now q.now out }
 {
-    let turns = checks::check_turns(kinds, numbers, n, q);
-    let output = checks::check_length(17, out, side * side);
-    let rotation = refusals::plain(22, double::both(floating, checks::bad_rotation(r)));
-    refusals::first(turns, refusals::first(output, rotation))
+    checks::check_turns(kinds, numbers, n, q)?;
+    checks::check_length(17, out, side * side)?;
+    refusals::plain(22, floating && checks::bad_rotation(r))
 }
 
 // 11 and 12 before them.
+#[tactic(auto, using(calls::proofs::Passed::counted), unfolding(crate::specs::Checks::tame_verdict, refusals::specs::Refusals::or_else))]
 pub fn judged_tame<'a>(
     n: usize,
     side: usize,
@@ -42,18 +41,16 @@ pub fn judged_tame<'a>(
     a: usize,
     q: &'a [f64],
     out: usize,
-) -> Verdict
+) -> Result<(), Refusal>
     requires { (numbers.now ≡ active_numbers kinds.now) × (n ≤ 32) × (side ≤ 38) × (a ≡ actives_of kinds.now n) }
     ensures { result ≡ tame_verdict n side floating r kinds.now q.now out }
 {
-    let values = checks::check_values(11, 12, kinds, numbers, n, a, q);
-    let Verdict::Fine = values else {
-        return values;
-    };
+    checks::check_values(11, 12, kinds, numbers, n, a, q)?;
     judged_rest(n, side, floating, r, kinds, numbers, q, out)
 }
 
 // The checks to 22.
+#[tactic(auto, using(arm::proofs::topology::Counts::bounds), unfolding(crate::specs::Checks::inputs_verdict, refusals::specs::Refusals::plain_of, refusals::specs::Refusals::or_else))]
 pub fn judged<'a>(
     floating: bool,
     r: Quaternion,
@@ -64,18 +61,17 @@ pub fn judged<'a>(
     q: &'a [f64],
     ws: usize,
     out: usize,
-) -> Verdict
+) -> Result<(), Refusal>
     requires { numbers.now ≡ active_numbers kinds.now }
     ensures { result ≡ inputs_verdict floating r n parents.now kinds.now q.now ws out }
 {
     if model::wild(n, parents, kinds) {
-        return Verdict::Refused(9, Place::Nothing);
+        return Err(Refusal::plain(9));
     }
     let a = topology::number_at(kinds, numbers, n);
-    let p = plan::planned(floating, n, a);
-    let side = p.side;
+    let side = plan::planned(floating, n, a).side;
     if ws < n * places::JOINT + places::ROOT + side * side {
-        return Verdict::Refused(10, Place::Nothing);
+        return Err(Refusal::plain(10));
     }
     judged_tame(n, side, floating, r, kinds, numbers, a, q, out)
 }

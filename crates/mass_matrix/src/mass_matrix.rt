@@ -16,10 +16,7 @@ impl Mode {
     pub fn floats(self) -> bool
         ensures { result ≡ floats self }
     {
-        match self {
-            Mode::Fixed => false,
-            Mode::Floating(_) => true,
-        }
+        matches!(self, Mode::Floating(_))
     }
 
     pub fn rotation(self) -> Quaternion

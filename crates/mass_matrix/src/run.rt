@@ -65,17 +65,14 @@ pub fn run<'a>(
         position: from,
         outcome: Outcome::Open,
     };
-    let mut left = budget;
-    while 0 < left {
+    for _ in 0..budget {
         let position = s.position;
-        let closed = position.closed;
-        if closed {
+        if position.closed {
             return s;
         }
         s = step(
             p, r, parents, kinds, origins, axes, links, rotors, numbers, q, ws, out, position,
         );
-        left -= 1;
     }
     s
 }

@@ -7,16 +7,11 @@ ghost use Rattle.mat6.specs.Mat6.{plus_of, row_of, apply_of};
 pub fn plus(a: &[f64; 36], b: &[f64; 36]) -> [f64; 36]
     ensures { result ≡ plus_of a.now b.now }
 {
-    let mut m = [0.0; 36];
-    let mut t: usize = 0;
-    while t < 36 {
-        m[t] = a[t] + b[t];
-        t += 1;
-    }
-    m
+    std::array::from_fn(|t| a[t] + b[t])
 }
 
 // Row i of m v.
+#[tactic(auto, unfolding(crate::specs::Mat6::row_of))]
 fn row(m: &[f64; 36], v: &[f64; 6], i: usize) -> f64
     requires { i < 6 }
     ensures { result ≡ row_of m.now v.now i }
@@ -33,12 +28,5 @@ fn row(m: &[f64; 36], v: &[f64; 6], i: usize) -> f64
 pub fn apply(m: &[f64; 36], v: &[f64; 6]) -> [f64; 6]
     ensures { result ≡ apply_of m.now v.now }
 {
-    [
-        row(m, v, 0),
-        row(m, v, 1),
-        row(m, v, 2),
-        row(m, v, 3),
-        row(m, v, 4),
-        row(m, v, 5),
-    ]
+    std::array::from_fn(|i| row(m, v, i))
 }

@@ -1,8 +1,7 @@
 -- A column of the mass matrix, by its walk: "going from a joint to its parent until the root is reached". Definitions only.
 use Rattle.std.specs.Prelude.{cond, List, ◌≡◌, ℕ, zero, suc, ◌+◌, ◌-◌, eqb, Float}
 use Rattle.numbers.specs.declared.quaternion.Quaternion.{Quaternion}
-use Rattle.refusals.specs.declared.Place.{Place}
-use Rattle.refusals.specs.declared.Place.TheVariants.{At, Nothing}
+use Rattle.std.specs.Prelude.{Option, Some, None}
 use Rattle.spatial.specs.Operators.{wrench_to_parent}
 use Rattle.spatial.specs.Wrench.{rotated_of, vector_of}
 use Rattle.spatial.specs.declared.wrench.Wrench.{Wrench}
@@ -55,9 +54,9 @@ column_visit p r parents kinds axes rotors j ws =
     let walked = walk_of p parents kinds axes column j (force_of (motion_of kinds axes j) (composite_at ws (composite_place j)), ws) in
     base_rows p r column (walked.0, add_rotor p column (rotor_of rotors j) walked.1)
 
-unfoldable pub column_found : Plan → Quaternion → List ℕ → List ℕ → List Float → List Float → Place → List Float → List Float
-column_found p r parents kinds axes rotors (At j) ws = column_visit p r parents kinds axes rotors j ws
-column_found p r parents kinds axes rotors Nothing ws = ws
+unfoldable pub column_found : Plan → Quaternion → List ℕ → List ℕ → List Float → List Float → Option ℕ → List Float → List Float
+column_found p r parents kinds axes rotors (Some j) ws = column_visit p r parents kinds axes rotors j ws
+column_found p r parents kinds axes rotors None ws = ws
 
 -- of active number k
 abbrev pub active_column : Plan → Quaternion → Model → ℕ → List Float → List Float

@@ -11,7 +11,6 @@ use arm::{model, topology};
 use calls::plan::Plan;
 use composites::{composite, plan};
 use numbers::quaternion::Quaternion;
-use refusals::Place;
 use spatial::wrench::Wrench;
 
 // How many joints further a leg of the walk goes.
@@ -33,14 +32,11 @@ fn leg<'a>(
     requires { Fit p parents.now kinds.now numbers.now × Room p (length ws.old) × (j < p.n) × (column < p.side) }
     ensures { (result ≤ j) × Reached p parents.now kinds.now axes.now column j (w, ws.old) result end.new ws.new }
 {
-    let n = p.n;
-    let lead = p.lead;
-    let side = p.side;
     let t = w.torque;
     let f = w.force;
     walk::walk(
-        n, lead, side, parents, kinds, axes, numbers, ws, end, LEG, j, column, t.x, t.y, t.z, f.x,
-        f.y, f.z,
+        p.n, p.lead, p.side, parents, kinds, axes, numbers, ws, end, LEG, j, column, t.x, t.y, t.z,
+        f.x, f.y, f.z,
     )
 }
 
@@ -95,21 +91,19 @@ fn column_visit<'a>(
     requires { Fit p parents.now kinds.now numbers.now × Room p (length ws.old) × (j < p.n) × (kind_of kinds.now j ≡ 2 → ⊥) }
     ensures { ws.new ≡ column_visit p r parents.now kinds.now axes.now rotors.now j ws.old }
 {
-    let lead = p.lead;
     let column = plan::row_of(p, parents, kinds, numbers, j);
     let motion = model::motion_at(kinds, axes, j);
-    let rotor = rotors[j];
     let c = composite::composite_at(ws, j * plan::JOINT + plan::COMPOSITE);
     let force = composite::force(motion, c);
     let w = walked(p, parents, kinds, axes, numbers, ws, j, column, force);
-    plan::add_rotor(p, ws, column, rotor);
-    if lead == 0 {
-        return;
+    plan::add_rotor(p, ws, column, rotors[j]);
+    if p.lead != 0 {
+        walk::base_rows(p, r, ws, column, w);
     }
-    walk::base_rows(p, r, ws, column, w);
 }
 
 // The column of active number k.
+#[tactic(auto, unfolding(crate::specs::Walk::column_found))]
 pub fn active_column<'a>(
     p: Plan,
     r: Quaternion,
@@ -124,10 +118,7 @@ pub fn active_column<'a>(
     requires { Fit p parents.now kinds.now numbers.now × Room p (length ws.old) × (k ≤ p.n) }
     ensures { ws.new ≡ column_found p r parents.now kinds.now axes.now rotors.now (active_joint kinds.now p.n k) ws.old }
 {
-    let n = p.n;
-    let found = topology::active_joint(kinds, numbers, n, k);
-    match found {
-        Place::At(j) => column_visit(p, r, parents, kinds, axes, rotors, numbers, ws, j),
-        Place::Nothing => {}
+    if let Some(j) = topology::active_joint(kinds, numbers, p.n, k) {
+        column_visit(p, r, parents, kinds, axes, rotors, numbers, ws, j);
     }
 }

@@ -19,25 +19,8 @@ use numbers::vec3::Vec3;
 use spatial::operators;
 use spatial::wrench::Wrench;
 
-// An active joint's entry in a column, and its mirror.
-fn put_active<'a>(
-    p: Plan,
-    parents: &'a [u8; 32],
-    kinds: &'a [u8; 32],
-    numbers: &'a [u8; 33],
-    ws: &mut [f64],
-    j: usize,
-    column: usize,
-    entry: f64,
-)
-    requires { Fit p parents.now kinds.now numbers.now × Room p (length ws.old) × (j < p.n) × (column < p.side) × (kind_of kinds.now j ≡ 2 → ⊥) }
-    ensures { ws.new ≡ put_pair p (p.lead + actives_of kinds.now j) column entry ws.old }
-{
-    let row = plan::row_of(p, parents, kinds, numbers, j);
-    plan::put_pair(p, ws, row, column, entry);
-}
-
 // Joint j's entry in a column, and its mirror; nothing for a fixed joint.
+#[tactic(auto, unfolding(crate::specs::Walk::put_entry))]
 fn put_entry<'a>(
     p: Plan,
     motion: Motion,
@@ -53,8 +36,10 @@ fn put_entry<'a>(
     ensures { ws.new ≡ put_entry p motion (p.lead + actives_of kinds.now j) column entry ws.old }
 {
     match motion {
-        Motion::Turn(_) => put_active(p, parents, kinds, numbers, ws, j, column, entry),
-        Motion::Slide(_) => put_active(p, parents, kinds, numbers, ws, j, column, entry),
+        Motion::Turn(_) | Motion::Slide(_) => {
+            let row = plan::row_of(p, parents, kinds, numbers, j);
+            plan::put_pair(p, ws, row, column, entry);
+        }
         Motion::Fixed => {}
     }
 }
@@ -113,13 +98,6 @@ fn wrench(tx: f64, ty: f64, tz: f64, fx: f64, fy: f64, fz: f64) -> Wrench
     Wrench { torque, force }
 }
 
-// The wrench that the walk ends with.
-fn put_end(end: &mut [f64; 6], w: Wrench)
-    ensures { end.new ≡ vector_of w }
-{
-    *end = w.to_vector();
-}
-
 // From joint j to its parent until the root is reached, or `left` joints further; the link that it has come to, with the wrench there in `end`, which a fixed
 // root throws away. Plan and wrench come as numbers, which stay in registers: a struct is handed over through memory, which costs 40 % at 32 joints.
 pub fn walk<'a>(
@@ -154,11 +132,11 @@ pub fn walk<'a>(
     }
     let up = carried(ws, j, w);
     if parent == 0 {
-        put_end(end, up);
+        *end = up.to_vector();
         return 0;
     }
     if left == 0 {
-        put_end(end, up);
+        *end = up.to_vector();
         return parent;
     }
     let t = up.torque;

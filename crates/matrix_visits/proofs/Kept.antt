@@ -6,8 +6,7 @@ use lib.Dec.{eqb, ltb}
 use lib.ListN.{length}
 use lib.Ieee.{Float}
 use Rattle.numbers.specs.declared.quaternion.Quaternion.{Quaternion}
-use Rattle.refusals.specs.declared.Place.{Place}
-use Rattle.refusals.specs.declared.Place.TheVariants.{At, Nothing}
+use Rattle.std.specs.Prelude.{Option, Some, None}
 use Rattle.spatial.specs.declared.wrench.Wrench.{Wrench}
 use Rattle.slots.proofs.Lengths.{length-put_wrench, length-put_frame, length-zero_to}
 use Rattle.arm.specs.Model.{parent_of}
@@ -63,11 +62,11 @@ unfolding walk_of walk_step
 length-walk p parents kinds axes column j s =
     climb-keeps size (parent_of parents) (walk_step p kinds axes column) (λ i t. length-put_entry p _ _ column _ t.1) (suc j) j s
 
-length_found : (p : Plan) (r : Quaternion) (parents kinds : List ℕ) (axes rotors : List Float) (i : Place) (ws : List Float) → length (column_found p r parents kinds axes rotors i ws) ≡ length ws
+length_found : (p : Plan) (r : Quaternion) (parents kinds : List ℕ) (axes rotors : List Float) (i : Option ℕ) (ws : List Float) → length (column_found p r parents kinds axes rotors i ws) ≡ length ws
 unfolding column_found column_visit base_rows
-length_found p r parents kinds axes rotors (At j) ws =
+length_found p r parents kinds axes rotors (Some j) ws =
     either_way length (eqb p.lead 0) (length-add_rotor p _ _ _ ∙ length-walk p parents kinds axes _ j _) (length-put_six p _ _ _ ∙ length-add_rotor p _ _ _ ∙ length-walk p parents kinds axes _ j _)
-length_found p r parents kinds axes rotors Nothing ws = refl
+length_found p r parents kinds axes rotors None ws = refl
 
 length-joint : (p : Plan) (r : Quaternion) (m : Model) (q : List Float) (at : ℕ) (ws : List Float) → length (joint_visit p r m q at ws) ≡ length ws
 unfolding joint_visit frame_visit

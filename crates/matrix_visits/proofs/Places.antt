@@ -10,8 +10,7 @@ use lib.ListN.{set, get_or}
 use lib.Ieee.{Float, nan}
 use Rattle.numbers.specs.declared.quaternion.Quaternion.{Quaternion}
 use Rattle.numbers.specs.declared.vec3.Vec3.{Vec3}
-use Rattle.refusals.specs.declared.Place.{Place}
-use Rattle.refusals.specs.declared.Place.TheVariants.{At, Nothing}
+use Rattle.std.specs.Prelude.{Option, Some, None}
 use Rattle.spatial.specs.Wrench.{rotated_of}
 use Rattle.spatial.specs.declared.wrench.Wrench.{Wrench}
 use Rattle.slots.specs.Parts.{Part, part, Sets}
@@ -109,10 +108,10 @@ six-sets p column w ws =
     (pair-sets p 4 column w.force.y _))
     (pair-sets p 5 column w.force.z _)
 
-column-sets : (p : Plan) (r : Quaternion) (parents kinds : List ℕ) (axes rotors : List Float) (found : Place) (ws : List Float) →
+column-sets : (p : Plan) (r : Quaternion) (parents kinds : List ℕ) (axes rotors : List Float) (found : Option ℕ) (ws : List Float) →
     Sets (column_parts p parents kinds found) ws (column_found p r parents kinds axes rotors found ws)
 unfolding column_parts path_parts column_found column_visit walk_of base_rows add_rotor
-column-sets p r parents kinds axes rotors (At j) ws =
+column-sets p r parents kinds axes rotors (Some j) ws =
     let column = p.lead + actives_of kinds j in
     let from : Wrench × List Float = (force_of (motion_of kinds axes j) (composite_at ws (composite_place j)), ws) in
     let end = climb (parent_of parents) (walk_step p kinds axes column) (suc j) j from in
@@ -121,7 +120,7 @@ column-sets p r parents kinds axes rotors (At j) ws =
     row (path_parts p parents kinds column j) (part diagonal 1 ∷ cond (eqb p.lead 0) [] (rows_to p column 6))
     (climb-sets (λ (s : Wrench × List Float). s.1) (parent_of parents) (walk_step p kinds axes column) (entry_parts p kinds column) (step-sets p kinds axes column) (suc j) j from [] ws (none ws))
     (then (here (set-outside _ _ _)) (there (way same (eqb p.lead 0) (none full) (six-sets p column (rotated_of end.0 r) full))))
-column-sets p r parents kinds axes rotors Nothing ws = none ws
+column-sets p r parents kinds axes rotors None ws = none ws
 
 -- ---- a visit
 

@@ -7,8 +7,7 @@ use borrow.Author.Tests.{ltb-true, ltb-false}
 use lib.Dec.{eqb, ltb}
 use lib.Ieee.{Float}
 use Rattle.numbers.specs.declared.quaternion.Quaternion.{Quaternion}
-use Rattle.refusals.specs.declared.Place.{Place}
-use Rattle.refusals.specs.declared.Place.TheVariants.{At, Nothing}
+use Rattle.std.specs.Prelude.{Option, Some, None}
 use Rattle.spatial.specs.Operators.{wrench_to_parent}
 use Rattle.spatial.specs.Wrench.{rotated_of}
 use Rattle.spatial.specs.declared.wrench.Wrench.{Wrench}
@@ -147,10 +146,10 @@ module _ (p : Plan) (r : Quaternion) (m : Model) (q rotors : List Float) (tree :
   unfolding column_found
   found_alike s t k h = go (active_joint kinds p.n k) (found-is kinds p.n k)
     where
-      go : (found : Place) → ((j : ℕ) → found ≡ At j → Numbered kinds p.n k j)
+      go : (found : Option ℕ) → ((j : ℕ) → found ≡ Some j → Numbered kinds p.n k j)
           → Alike Shared (column_found p r m.parents kinds m.axes m.rotors found s) (column_found p r m.parents kinds m.axes rotors found t)
-      go (At j) f = let is = f j refl in column-alike s t j h is.joint is.active
-      go Nothing f = h
+      go (Some j) f = let is = f j refl in column-alike s t j h is.joint is.active
+      go None f = h
 
   joint-alike : (s t : List Float) (k : ℕ) → Alike Shared s t → Alike Shared (joint_visit p r m q k s) (joint_visit p r other q k t)
   unfolding joint_visit

@@ -4,7 +4,8 @@ use Rattle.numbers.specs.Double.{0·0, 1·0, all_finite}
 use Rattle.numbers.specs.Quaternion.{inverse_of, rotate_of}
 use Rattle.numbers.specs.declared.vec3.Vec3.{Vec3}
 use Rattle.numbers.specs.declared.quaternion.Quaternion.{Quaternion}
-use Rattle.refusals.specs.declared.Place.TheVariants.{Nothing}
+use Rattle.std.specs.Prelude.{None}
+use Rattle.refusals.specs.Refusals.{refusal}
 use Rattle.spatial.specs.Wrench.{rotated_of}
 use Rattle.spatial.specs.declared.wrench.Wrench.{Wrench}
 use Rattle.slots.specs.Slots.{frame_at, put_frame, put_wrench, zero_to}
@@ -70,7 +71,7 @@ root_columns p r ws = cond (eqb p.lead 0) ws (base_loads_to p r (composite_at ws
 
 -- 37: an entry is not finite
 unfoldable pub tested : Plan → List Float → Outcome
-tested p ws = cond (all_finite (take (p.side * p.side) (drop (matrix_place p.n) ws))) Accepted (Refused 37 Nothing)
+tested p ws = cond (all_finite (take (p.side * p.side) (drop (matrix_place p.n) ws))) Accepted (Refused (refusal 37 None))
 
 unfoldable pub root_visit : Plan → Quaternion → List Float → Outcome × List Float
 root_visit p r ws = let full = root_columns p r ws in (tested p full, full)

@@ -1,7 +1,6 @@
 -- The places that a visit sets, as the table of docs/LAYOUT.md has them. Definitions only.
 use Rattle.std.specs.Prelude.{cond, List, [], ◌∷◌, ◌++◌, ℕ, zero, suc, ◌+◌, ◌-◌, ◌*◌, eqb, ltb}
-use Rattle.refusals.specs.declared.Place.{Place}
-use Rattle.refusals.specs.declared.Place.TheVariants.{At, Nothing}
+use Rattle.std.specs.Prelude.{Option, Some, None}
 use Rattle.slots.specs.Parts.{Part, part}
 use Rattle.arm.specs.Joint.{is_fixed}
 use Rattle.arm.specs.Model.{parent_of, kind_of}
@@ -46,11 +45,11 @@ rows_to p column zero = []
 rows_to p column (suc k) = rows_to p column k ++ pair_parts p k column
 
 -- the joint's column, its diagonal entry once more, with its rotor, and the base's six rows where the root floats
-unfoldable pub column_parts : Plan → List ℕ → List ℕ → Place → List Part
-column_parts p parents kinds (At j) =
+unfoldable pub column_parts : Plan → List ℕ → List ℕ → Option ℕ → List Part
+column_parts p parents kinds (Some j) =
     let column = p.lead + actives_of kinds j in
     path_parts p parents kinds column j ++ (part (place_of p column column) 1 ∷ cond (eqb p.lead 0) [] (rows_to p column 6))
-column_parts p parents kinds Nothing = []
+column_parts p parents kinds None = []
 
 -- ---- the root's visit
 

@@ -15,29 +15,26 @@ use composites::{composite, plan};
 use matrix_columns::column;
 use numbers::quaternion::Quaternion;
 use numbers::vec3::Vec3;
-use refusals::Place;
+use refusals::Refusal;
 use spatial::wrench::Wrench;
 
 // What the Rust sets before its loops: the matrix is +0.0, and a floating root has its own link's numbers.
+#[tactic(auto, unfolding(crate::specs::Kernel::begun_of))]
 fn begin(p: Plan, links: &[f64; 330], ws: &mut [f64], at: usize)
     requires { Room p (length ws.old) }
     ensures { ws.new ≡ begun_of p links.now at ws.old }
 {
-    let n = p.n;
-    let lead = p.lead;
-    let side = p.side;
     if at != 0 {
         return;
     }
-    slots::zero_part(ws, n * plan::JOINT + plan::ROOT, side * side);
-    if lead == 0 {
-        return;
+    slots::zero_part(ws, p.n * plan::JOINT + plan::ROOT, p.side * p.side);
+    if p.lead != 0 {
+        composite::put_composite(ws, p.n * plan::JOINT, model::link_at(links, 0));
     }
-    let root = model::link_at(links, 0);
-    composite::put_composite(ws, n * plan::JOINT, root);
 }
 
 // Joint j's frame, and its own link as the start of its composite.
+#[tactic(auto, unfolding(crate::specs::Kernel::frame_visit))]
 fn frame_visit<'a>(
     p: Plan,
     parents: &'a [u8; 32],
@@ -53,14 +50,14 @@ fn frame_visit<'a>(
     requires { Fit p parents.now kinds.now numbers.now × Room p (length ws.old) × (j < p.n) × (length q.now ≡ actives_of kinds.now p.n) }
     ensures { ws.new ≡ frame_visit parents.now kinds.now origins.now axes.now links.now q.now j ws.old }
 {
-    let n = p.n;
-    let frame = topology::frame_at(n, parents, kinds, origins, axes, numbers, q, j);
+    let frame = topology::frame_at(p.n, parents, kinds, origins, axes, numbers, q, j);
     slots::put_frame(ws, j * plan::JOINT, frame);
     let link = model::link_at(links, j + 1);
     composite::put_composite(ws, j * plan::JOINT + plan::COMPOSITE, link);
 }
 
 // Joint j's composite is added to the one at a place.
+#[tactic(auto, unfolding(crate::specs::Kernel::add_into))]
 fn add_into(ws: &mut [f64], at: usize, j: usize)
     requires { (j < 32) × (composite_place j + 13 ≤ length ws.old) × (at + 13 ≤ length ws.old) }
     ensures { ws.new ≡ add_into at j ws.old }
@@ -74,6 +71,7 @@ fn add_into(ws: &mut [f64], at: usize, j: usize)
 }
 
 // The place of the parent's composite, or of the root's.
+#[tactic(auto, unfolding(crate::specs::Kernel::into_place))]
 fn into_place(n: usize, parent: usize) -> usize
     requires { (n ≤ 32) × (parent ≤ n) }
     ensures { (result ≡ into_place n parent) × (result ≤ root_place n) }
@@ -85,45 +83,31 @@ fn into_place(n: usize, parent: usize) -> usize
 }
 
 // Into the parent's composite, or the root's where it floats.
+#[tactic(auto, unfolding(crate::specs::Kernel::composite_visit, crate::specs::Kernel::into_place))]
 fn composite_visit(p: Plan, parents: &[u8; 32], ws: &mut [f64], j: usize)
     requires { Tree p.n parents.now × Room p (length ws.old) × (p.lead ≤ 6) × (j < p.n) }
     ensures { ws.new ≡ composite_visit p (parent_of parents.now j) j ws.old }
 {
-    let n = p.n;
-    let lead = p.lead;
-    let parent = model::parent_at(n, parents, j);
-    if parent + lead == 0 {
-        return;
+    let parent = model::parent_at(p.n, parents, j);
+    if parent + p.lead != 0 {
+        add_into(ws, into_place(p.n, parent), j);
     }
-    let at = into_place(n, parent);
-    add_into(ws, at, j);
 }
 
+#[tactic(auto, unfolding(crate::specs::Kernel::world_axis))]
 fn world_axis(k: usize) -> Vec3
     ensures { result ≡ world_axis k }
 {
-    if k == 0 {
-        return Vec3 {
-            x: 1.0,
-            y: 0.0,
-            z: 0.0,
-        };
-    }
-    if k == 1 {
-        return Vec3 {
-            x: 0.0,
-            y: 1.0,
-            z: 0.0,
-        };
-    }
-    Vec3 {
-        x: 0.0,
-        y: 0.0,
-        z: 1.0,
-    }
+    let (x, y, z) = match k {
+        0 => (1.0, 0.0, 0.0),
+        1 => (0.0, 1.0, 0.0),
+        _ => (0.0, 0.0, 1.0),
+    };
+    Vec3 { x, y, z }
 }
 
 // What moves the whole arm along base direction k, in the world.
+#[tactic(auto, unfolding(crate::specs::Kernel::base_load))]
 pub fn base_load(r: Quaternion, root: Link, k: usize) -> Wrench
     ensures { result ≡ base_load r root k }
 {
@@ -138,48 +122,44 @@ fn base_column(p: Plan, r: Quaternion, root: Link, ws: &mut [f64], k: usize)
     requires { Room p (length ws.old) × (6 ≤ p.side) × (k < 6) }
     ensures { ws.new ≡ put_wrench ws.old (place_of p 0 k) (base_load r root k) }
 {
-    let w = base_load(r, root, k);
-    plan::write_wrench_to_column(p, ws, k, w);
+    plan::write_wrench_to_column(p, ws, k, base_load(r, root, k));
 }
 
+#[tactic(auto, unfolding(crate::specs::Kernel::base_loads_to))]
 fn base_columns(p: Plan, r: Quaternion, root: Link, ws: &mut [f64])
     requires { Room p (length ws.old) × (6 ≤ p.side) }
     ensures { ws.new ≡ base_loads_to p r root 6 ws.old }
 {
-    let mut k: usize = 0;
-    while k < 6 {
+    for k in 0..6 {
         base_column(p, r, root, ws, k);
-        k += 1;
     }
 }
 
 // The base's own six columns, where it floats.
+#[tactic(auto, unfolding(crate::specs::Kernel::root_columns))]
 fn root_columns(p: Plan, r: Quaternion, ws: &mut [f64])
     requires { Room p (length ws.old) × ((p.lead ≡ 0 → ⊥) → 6 ≤ p.side) }
     ensures { ws.new ≡ root_columns p r ws.old }
 {
-    let n = p.n;
-    let lead = p.lead;
-    if lead == 0 {
-        return;
+    if p.lead != 0 {
+        let root = composite::composite_at(ws, p.n * plan::JOINT);
+        base_columns(p, r, root, ws);
     }
-    let root = composite::composite_at(ws, n * plan::JOINT);
-    base_columns(p, r, root, ws);
 }
 
 // Every entry is tested.
+#[tactic(auto, unfolding(crate::specs::Kernel::tested))]
 fn test(p: Plan, ws: &[f64]) -> Outcome
     requires { Room p (length ws.now) }
     ensures { result ≡ tested p ws.now }
 {
-    let n = p.n;
-    let side = p.side;
-    if slots::finite_part(ws, n * plan::JOINT + plan::ROOT, side * side) {
+    if slots::finite_part(ws, p.n * plan::JOINT + plan::ROOT, p.side * p.side) {
         return Outcome::Accepted;
     }
-    Outcome::Refused(37, Place::Nothing)
+    Outcome::Refused(Refusal::plain(37))
 }
 
+#[tactic(auto, unfolding(crate::specs::Kernel::root_visit))]
 fn root_visit(p: Plan, r: Quaternion, ws: &mut [f64]) -> Outcome
     requires { Room p (length ws.old) × ((p.lead ≡ 0 → ⊥) → 6 ≤ p.side) }
     ensures { (result, ws.new) ≡ root_visit p r ws.old }
@@ -189,6 +169,7 @@ fn root_visit(p: Plan, r: Quaternion, ws: &mut [f64]) -> Outcome
 }
 
 // A visit below the root's, after what the first brings.
+#[tactic(auto, using(arm::proofs::topology::Counts::bounds), unfolding(crate::specs::Kernel::joint_visit))]
 fn joint_visit<'a>(
     p: Plan,
     r: Quaternion,
@@ -209,26 +190,16 @@ fn joint_visit<'a>(
     let n = p.n;
     if at < n {
         frame_visit(p, parents, kinds, origins, axes, links, numbers, q, ws, at);
-        return;
-    }
-    if at < n + n {
+    } else if at < n + n {
         composite_visit(p, parents, ws, n + n - 1 - at);
-        return;
+    } else {
+        let k = at - (n + n);
+        column::active_column(p, r, parents, kinds, axes, rotors, numbers, ws, k);
     }
-    column::active_column(
-        p,
-        r,
-        parents,
-        kinds,
-        axes,
-        rotors,
-        numbers,
-        ws,
-        at - (n + n),
-    );
 }
 
 // Visit `at`.
+#[tactic(auto, unfolding(crate::specs::Kernel::visit_of))]
 pub fn visit<'a>(
     p: Plan,
     r: Quaternion,
@@ -246,12 +217,8 @@ pub fn visit<'a>(
     requires { Fit p parents.now kinds.now numbers.now × Room p (length ws.old) × (length q.now ≡ actives_of kinds.now p.n) }
     ensures { (result, ws.new) ≡ visits_by p r parents.now kinds.now origins.now axes.now links.now rotors.now q.now at ws.old }
 {
-    let n = p.n;
-    let lead = p.lead;
-    let side = p.side;
-    let joints = n + n + (side - lead);
     begin(p, links, ws, at);
-    if at < joints {
+    if at < p.n + p.n + (p.side - p.lead) {
         joint_visit(
             p, r, parents, kinds, origins, axes, links, rotors, numbers, q, ws, at,
         );

@@ -2,6 +2,7 @@
 use crate::runs::{next, number};
 use forward_slots::layout;
 use forward_slots::loads::prepare_indexed_loads;
+use std::array;
 
 const COUNT: usize = 2048;
 
@@ -12,15 +13,11 @@ const ROOM: usize = 3136;
 
 // Links of no order.
 fn links() -> [u64; COUNT] {
-    let mut loaded = [0; COUNT];
-    let mut at: u64 = 0;
-    let mut k: usize = 0;
-    while k < COUNT {
+    let mut at = 0;
+    array::from_fn(|_| {
         at = next(at);
-        loaded[k] = at % 33;
-        k += 1;
-    }
-    loaded
+        at % 33
+    })
 }
 
 // Another number differs with each call. What is told is of the root's load and of a joint's.
@@ -34,13 +31,11 @@ pub fn run(count: u64) -> f64 {
     let loaded = links();
     let mut loads = [1.0; NUMBERS];
     let mut ws = [0.0; ROOM];
-    let mut at: u64 = 0;
+    let mut at = 0;
     let mut sum = 1.0;
-    let mut left = count;
-    while left > 0 {
+    for _ in 0..count {
         at = next(at);
         sum += pass(&loaded, &mut loads, &mut ws, at);
-        left -= 1;
     }
     sum
 }

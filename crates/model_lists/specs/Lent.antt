@@ -1,8 +1,7 @@
 -- The lists as a model's own. Assumes nothing.
-use Rattle.std.specs.Prelude.{ℕ, Bool, true, ◌&&◌, List, [], ◌∷◌, ◌≡◌, eqb, ltb, length}
+use Rattle.std.specs.Prelude.{ℕ, Bool, true, cond, ◌&&◌, List, [], ◌∷◌, eqb, ltb, length, Option, Some, None}
 use Rattle.arm.specs.declared.model.Model.{Model}
 use Rattle.model_lists.specs.Read.{Numbers}
-use Rattle.model_lists.specs.declared.lent.Lent.{Lent}
 
 -- numbers below 256
 unfoldable pub all_bytes : List ℕ → Bool
@@ -22,7 +21,10 @@ lendable h =
 abbrev pub lent_model : Numbers → Model
 lent_model h = record { n = h.n; parents = h.parents; kinds = h.kinds; origins = h.origins; axes = h.axes; links = h.links; rotors = h.rotors }
 
--- what `lent_model` promises
-pub record LentBy (h : Numbers) (r : Lent) : Type 0 where
-  pub fine : r.fine ≡ lendable h
-  pub model : r.fine ≡ true → r.model ≡ lent_model h
+-- what `lent_model` answers: the numbers as they stand, if they can be lent
+unfoldable pub lent_by : Numbers → Option Model
+lent_by h = cond (lendable h) (Some (lent_model h)) None
+
+-- numbers as bytes
+unfoldable pub bytes_by : List ℕ → Option (List ℕ)
+bytes_by l = cond (all_bytes l) (Some l) None

@@ -1,11 +1,8 @@
 -- What `model` and `lend` hand in, of the words behind the first: N PARENTS KINDS ORIGINS AXES LINKS ROTORS. Assumes nothing.
-use Rattle.std.specs.Prelude.{ℕ, ◌≤◌, List, [], length, take, Float}
-use Rattle.std.proofs.Math.Option.{Option, none, some}
+use Rattle.std.specs.Prelude.{ℕ, ◌≤◌, List, [], length, take, Float, Option, Some, None}
 use Rattle.words.specs.Read.{Reader, give, ◌>>=◌, ◌>>◌, number, end}
 use Rattle.words.specs.List.{numbers, doubles}
 use Rattle.model_lists.specs.declared.read.Sizes.{Sizes}
-use Rattle.model_lists.specs.declared.read.Handed.{Handed}
-use Rattle.model_lists.specs.declared.read.Handed.TheVariants.{Got, Bad}
 
 pub record Numbers : Type 0 where
   pub n : ℕ
@@ -44,9 +41,9 @@ numbers_by k parents kinds origins axes links rotors =
     }
 
 -- what `read_numbers` has read into the lent lists
-abbrev pub handed_read : Handed → List ℕ → List ℕ → List Float → List Float → List Float → List Float → Option (Numbers × List (List ℕ))
-handed_read (Got k) parents kinds origins axes links rotors = some (numbers_by k parents kinds origins axes links rotors, [])
-handed_read Bad parents kinds origins axes links rotors = none
+abbrev pub handed_read : Option Sizes → List ℕ → List ℕ → List Float → List Float → List Float → List Float → Option Numbers
+handed_read (Some k) parents kinds origins axes links rotors = Some (numbers_by k parents kinds origins axes links rotors)
+handed_read None parents kinds origins axes links rotors = None
 
 -- the lent lists have so many
 pub record SizesIn (k : Sizes) (p q : List ℕ) (o a l t : List Float) : Type 0 where
@@ -57,6 +54,6 @@ pub record SizesIn (k : Sizes) (p q : List ℕ) (o a l t : List Float) : Type 0 
   pub links : k.links ≤ length l
   pub rotors : k.rotors ≤ length t
 
-abbrev pub HandedIn : Handed → List ℕ → List ℕ → List Float → List Float → List Float → List Float → Type 0
-HandedIn (Got k) parents kinds origins axes links rotors = SizesIn k parents kinds origins axes links rotors
-HandedIn Bad parents kinds origins axes links rotors = Unit
+abbrev pub HandedIn : Option Sizes → List ℕ → List ℕ → List Float → List Float → List Float → List Float → Type 0
+HandedIn (Some k) parents kinds origins axes links rotors = SizesIn k parents kinds origins axes links rotors
+HandedIn None parents kinds origins axes links rotors = Unit

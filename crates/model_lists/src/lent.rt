@@ -1,53 +1,49 @@
 // The lists as a model's own.
-ghost use Rattle.std.specs.Prelude.{true, ◌≡◌, ◌≤◌, length, take};
+ghost use Rattle.std.specs.Prelude.{◌≡◌, ◌≤◌, length, take};
 ghost use Rattle.model_lists.specs.Read.{numbers_by, SizesIn};
-ghost use Rattle.model_lists.specs.Lent.{all_bytes, full_by, LentBy};
+ghost use Rattle.model_lists.specs.Lent.{bytes_by, full_by, lent_by};
 
 use crate::read::Sizes;
 use arm::model::Model;
-use numbers::double::both;
+use std::array;
 
-// 32 numbers as bytes, if they are below 256.
-#[derive(Clone, Copy)]
-pub struct Bytes {
-    pub fine: bool,
-    pub bytes: [u8; 32],
-}
-
-// A lent model, if the lists make one.
-#[derive(Clone, Copy)]
-pub struct Lent {
-    pub fine: bool,
-    pub model: Model,
-}
-
-// The first 32 numbers.
-fn narrow(s: &[u64]) -> Bytes
+// The first 32 numbers as bytes, if they are below 256.
+fn narrow(s: &[u64]) -> Option<[u8; 32]>
     requires { 32 ≤ length s.now }
-    ensures { (result.fine ≡ all_bytes (take 32 s.now)) × (result.fine ≡ true → result.bytes ≡ take 32 s.now) }
+    ensures { result ≡ bytes_by (take 32 s.now) }
 {
-    let mut bytes = [0u8; 32];
-    let mut k = 0;
-    while k < 32 {
-        let x = s[k];
-        if 255 < x {
-            return Bytes { fine: false, bytes };
+    let mut bytes = [0; 32];
+    for k in 0..32 {
+        if 255 < s[k] {
+            return None;
         }
-        bytes[k] = x as u8;
-        k += 1;
+        bytes[k] = s[k] as u8;
     }
-    Bytes { fine: true, bytes }
+    Some(bytes)
 }
 
 // Whether the lists are as long as a model's own.
+#[tactic(auto, unfolding(crate::specs::Lent::full_by))]
 fn full(k: Sizes) -> bool
     ensures { result ≡ full_by k.parents k.kinds k.origins k.axes k.links k.rotors }
 {
-    let joints = both(k.parents == 32, k.kinds == 32);
-    let numbers = both(k.origins == 224, k.axes == 96);
-    both(both(joints, numbers), both(k.links == 330, k.rotors == 32))
+    k.parents == 32
+        && k.kinds == 32
+        && k.origins == 224
+        && k.axes == 96
+        && k.links == 330
+        && k.rotors == 32
 }
 
+// The first N doubles.
+fn front<const N: usize>(s: &[f64]) -> [f64; N]
+    requires { N ≤ length s.now }
+    ensures { result ≡ take N s.now }
+{
+    array::from_fn(|k| s[k])
+}
+
+// A lent model, if the lists make one.
 pub fn lent_model<'a>(
     k: Sizes,
     parents: &'a [u64; 4096],
@@ -56,31 +52,20 @@ pub fn lent_model<'a>(
     axes: &'a [f64; 4096],
     links: &'a [f64; 4096],
     rotors: &'a [f64; 4096],
-) -> Lent
+) -> Option<Model>
     requires { SizesIn k parents.now kinds.now origins.now axes.now links.now rotors.now }
-    ensures { LentBy (numbers_by k parents.now kinds.now origins.now axes.now links.now rotors.now) result }
+    ensures { result ≡ lent_by (numbers_by k parents.now kinds.now origins.now axes.now links.now rotors.now) }
 {
-    let p = narrow(parents);
-    let q = narrow(kinds);
-    let mut origin_slots = [0.0; 224];
-    slots::copy_from(&mut origin_slots, origins, 0);
-    let mut axis_slots = [0.0; 96];
-    slots::copy_from(&mut axis_slots, axes, 0);
-    let mut link_slots = [0.0; 330];
-    slots::copy_from(&mut link_slots, links, 0);
-    let mut rotor_slots = [0.0; 32];
-    slots::copy_from(&mut rotor_slots, rotors, 0);
-    let parent_slots = p.bytes;
-    let kind_slots = q.bytes;
-    let model = Model {
+    if !full(k) {
+        return None;
+    }
+    Some(Model {
         n: k.n,
-        parents: parent_slots,
-        kinds: kind_slots,
-        origins: origin_slots,
-        axes: axis_slots,
-        links: link_slots,
-        rotors: rotor_slots,
-    };
-    let fine = both(full(k), both(p.fine, q.fine));
-    Lent { fine, model }
+        parents: narrow(parents)?,
+        kinds: narrow(kinds)?,
+        origins: front(origins),
+        axes: front(axes),
+        links: front(links),
+        rotors: front(rotors),
+    })
 }

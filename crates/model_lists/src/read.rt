@@ -1,10 +1,9 @@
 // What the requests `model` and `lend` hand in.
 ghost use Rattle.std.specs.Prelude.{◌≡◌, ◌≤◌, length};
-ghost use Rattle.words.specs.Read.{words_at};
+ghost use Rattle.words.specs.Read.{ReadBy};
 ghost use Rattle.model_lists.specs.Read.{handed, handed_read, HandedIn};
 
-use words::list::{Listed, doubles, numbers};
-use words::read::{Cursor, Next, at_end, next_number};
+use words::read::Words;
 
 // The joint count, and how many items each list has.
 #[derive(Clone, Copy)]
@@ -18,57 +17,27 @@ pub struct Sizes {
     pub rotors: usize,
 }
 
-#[derive(Clone, Copy)]
-pub enum Handed {
-    Got(Sizes),
-    Bad,
-}
-
 // N PARENTS KINDS ORIGINS AXES LINKS ROTORS, and no word behind them.
+#[tactic(auto, unfolding(crate::specs::Read::handed, words::specs::Read::end))]
 pub fn read_numbers(
-    s: &[u8],
-    c: Cursor,
+    words: &mut Words,
     parents: &mut [u64; 4096],
     kinds: &mut [u64; 4096],
     origins: &mut [f64; 4096],
     axes: &mut [f64; 4096],
     links: &mut [f64; 4096],
     rotors: &mut [f64; 4096],
-) -> Handed
-    requires { c.at ≤ length s.now }
-    ensures { (handed_read result parents.new kinds.new origins.new axes.new links.new rotors.new ≡ handed (words_at s.now c)) × HandedIn result parents.new kinds.new origins.new axes.new links.new rotors.new }
+) -> Option<Sizes>
+    ensures { ReadBy handed words.old (handed_read result parents.new kinds.new origins.new axes.new links.new rotors.new) words.new × HandedIn result parents.new kinds.new origins.new axes.new links.new rotors.new }
 {
-    let Next::Is(n, c0) = next_number(s, c) else {
-        return Handed::Bad;
+    let sizes = Sizes {
+        n: words.next_number()? as usize,
+        parents: words.list(parents)?,
+        kinds: words.list(kinds)?,
+        origins: words.list(origins)?,
+        axes: words.list(axes)?,
+        links: words.list(links)?,
+        rotors: words.list(rotors)?,
     };
-    let Listed::Got(p, c1) = numbers(s, c0, parents) else {
-        return Handed::Bad;
-    };
-    let Listed::Got(k, c2) = numbers(s, c1, kinds) else {
-        return Handed::Bad;
-    };
-    let Listed::Got(o, c3) = doubles(s, c2, origins) else {
-        return Handed::Bad;
-    };
-    let Listed::Got(a, c4) = doubles(s, c3, axes) else {
-        return Handed::Bad;
-    };
-    let Listed::Got(l, c5) = doubles(s, c4, links) else {
-        return Handed::Bad;
-    };
-    let Listed::Got(r, c6) = doubles(s, c5, rotors) else {
-        return Handed::Bad;
-    };
-    if !at_end(s, c6) {
-        return Handed::Bad;
-    }
-    Handed::Got(Sizes {
-        n: n as usize,
-        parents: p,
-        kinds: k,
-        origins: o,
-        axes: a,
-        links: l,
-        rotors: r,
-    })
+    if words.at_end() { Some(sizes) } else { None }
 }

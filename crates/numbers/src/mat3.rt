@@ -12,6 +12,7 @@ pub struct Mat3 {
 }
 
 impl Mat3 {
+    #[tactic(auto, unfolding(crate::specs::Mat3::plus_of))]
     pub fn plus(self, b: Mat3) -> Mat3
         ensures { result ≡ plus_of self b }
     {
@@ -34,6 +35,7 @@ impl Mat3 {
         }
     }
 
+    #[tactic(auto, unfolding(crate::specs::Mat3::minus_of))]
     pub fn minus(self, b: Mat3) -> Mat3
         ensures { result ≡ minus_of self b }
     {
@@ -56,6 +58,7 @@ impl Mat3 {
         }
     }
 
+    #[tactic(auto, unfolding(crate::specs::Mat3::neg_of))]
     pub fn negated(self) -> Mat3
         ensures { result ≡ neg_of self }
     {
@@ -78,6 +81,7 @@ impl Mat3 {
         }
     }
 
+    #[tactic(auto, unfolding(crate::specs::Mat3::transpose_of))]
     pub fn transpose(self) -> Mat3
         ensures { result ≡ transpose_of self }
     {
@@ -100,6 +104,7 @@ impl Mat3 {
         }
     }
 
+    #[tactic(auto, unfolding(crate::specs::Mat3::apply_of))]
     pub fn apply(self, v: Vec3) -> Vec3
         ensures { result ≡ apply_of self v }
     {
@@ -110,6 +115,7 @@ impl Mat3 {
         }
     }
 
+    #[tactic(auto, unfolding(crate::specs::Mat3::times_of))]
     pub fn times(self, b: Mat3) -> Mat3
         ensures { result ≡ times_of self b }
     {
@@ -134,6 +140,7 @@ impl Mat3 {
 }
 
 // a bᵀ.
+#[tactic(auto, unfolding(crate::specs::Mat3::outer_of))]
 pub fn outer(a: Vec3, b: Vec3) -> Mat3
     ensures { result ≡ outer_of a b }
 {
@@ -157,6 +164,7 @@ pub fn outer(a: Vec3, b: Vec3) -> Mat3
 }
 
 // s times the identity. Off the diagonal s * 0.0 is -0.0 or NaN where s is below zero or not finite.
+#[tactic(auto, unfolding(crate::specs::Mat3::identity_by))]
 pub fn identity_by(s: f64) -> Mat3
     ensures { result ≡ identity_by s }
 {
@@ -181,6 +189,7 @@ pub fn identity_by(s: f64) -> Mat3
     }
 }
 
+#[tactic(auto, unfolding(crate::specs::Mat3::cross_matrix_of))]
 pub fn cross_matrix(v: Vec3) -> Mat3
     ensures { result ≡ cross_matrix_of v }
 {

@@ -12,6 +12,7 @@ pub struct Quaternion {
 }
 
 impl Quaternion {
+    #[tactic(auto, unfolding(crate::specs::Quaternion::product_of))]
     pub fn times(self, b: Quaternion) -> Quaternion
         ensures { result ≡ product_of self b }
     {
@@ -25,6 +26,7 @@ impl Quaternion {
         }
     }
 
+    #[tactic(auto, unfolding(crate::specs::Quaternion::inverse_of))]
     pub fn inverse(self) -> Quaternion
         ensures { result ≡ inverse_of self }
     {
@@ -33,6 +35,7 @@ impl Quaternion {
         Quaternion { w, u }
     }
 
+    #[tactic(auto, unfolding(crate::specs::Quaternion::rotate_of))]
     pub fn rotate(self, v: Vec3) -> Vec3
         ensures { result ≡ rotate_of self v }
     {
@@ -41,6 +44,7 @@ impl Quaternion {
     }
 
     // The rotation matrix: squares single, mixed products doubled after multiplying.
+    #[tactic(auto, unfolding(crate::specs::Quaternion::matrix_of))]
     pub fn matrix(self) -> Mat3
         ensures { result ≡ matrix_of self }
     {

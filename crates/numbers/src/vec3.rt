@@ -10,6 +10,7 @@ pub struct Vec3 {
 }
 
 impl Vec3 {
+    #[tactic(auto, unfolding(crate::specs::Vec3::plus_of))]
     pub fn plus(self, b: Vec3) -> Vec3
         ensures { result ≡ plus_of self b }
     {
@@ -20,6 +21,7 @@ impl Vec3 {
         }
     }
 
+    #[tactic(auto, unfolding(crate::specs::Vec3::minus_of))]
     pub fn minus(self, b: Vec3) -> Vec3
         ensures { result ≡ minus_of self b }
     {
@@ -30,6 +32,7 @@ impl Vec3 {
         }
     }
 
+    #[tactic(auto, unfolding(crate::specs::Vec3::neg_of))]
     pub fn negated(self) -> Vec3
         ensures { result ≡ neg_of self }
     {
@@ -40,6 +43,7 @@ impl Vec3 {
         }
     }
 
+    #[tactic(auto, unfolding(crate::specs::Vec3::scale_of))]
     pub fn scale(self, k: f64) -> Vec3
         ensures { result ≡ scale_of self k }
     {
@@ -50,6 +54,7 @@ impl Vec3 {
         }
     }
 
+    #[tactic(auto, unfolding(crate::specs::Vec3::over_of))]
     pub fn over(self, k: f64) -> Vec3
         ensures { result ≡ over_of self k }
     {
@@ -60,12 +65,14 @@ impl Vec3 {
         }
     }
 
+    #[tactic(auto, unfolding(crate::specs::Vec3::dot_of))]
     pub fn dot(self, b: Vec3) -> f64
         ensures { result ≡ dot_of self b }
     {
         self.x * b.x + self.y * b.y + self.z * b.z
     }
 
+    #[tactic(auto, unfolding(crate::specs::Vec3::cross_of))]
     pub fn cross(self, b: Vec3) -> Vec3
         ensures { result ≡ cross_of self b }
     {

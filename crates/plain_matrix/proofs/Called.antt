@@ -7,10 +7,9 @@ use lib.ListN.{length}
 use lib.Ieee.{Float}
 use Rattle.numbers.specs.Double.{all_finite}
 use Rattle.numbers.specs.declared.quaternion.Quaternion.{Quaternion}
-use Rattle.refusals.specs.declared.Place.{Place}
-use Rattle.refusals.specs.declared.Place.TheVariants.{Nothing}
-use Rattle.refusals.specs.declared.Verdict.{Verdict}
-use Rattle.refusals.specs.declared.Verdict.TheVariants.{Fine, Refused}
+use Rattle.std.specs.Prelude.{None, Err}
+use Rattle.refusals.specs.Refusals.{Verdict, fine, refusal}
+use Rattle.refusals.specs.declared.Refusal.{Refusal}
 use Rattle.arm.specs.Model.{bundle}
 use Rattle.arm.specs.Topology.{actives_of}
 use Rattle.arm.specs.declared.model.Model.{Model}
@@ -32,11 +31,11 @@ module _ (mode : Mode) (n : ℕ) (parents kinds : List ℕ) (origins axes links 
   judged-so : plain_verdict (floats mode) (rotation_of mode) n parents kinds q (length out) ≡ v
   judged-so = rw (← ef, ← er) (sym ev)
 
-  pub call-refused : (number : ℕ) (i : Place) → v ≡ Refused number i → ◌≡◌ {A = Outcome × List Float} (outcome.Refused number i, out) (plain_call mode m q out)
+  pub call-refused : (e : Refusal) → v ≡ Err e → ◌≡◌ {A = Outcome × List Float} (outcome.Refused e, out) (plain_call mode m q out)
   unfolding plain_call
-  call-refused number i e = rw (judged-so ∙ e)
+  call-refused e h = rw (judged-so ∙ h)
 
-  module _ (e : v ≡ Fine) (p : Plan) (a : ℕ) (ea : a ≡ actives_of kinds n) (ep : p ≡ plan_by f n a) where
+  module _ (e : v ≡ fine) (p : Plan) (a : ℕ) (ea : a ≡ actives_of kinds n) (ep : p ≡ plan_by f n a) where
     abbrev mine : List Float
     mine = plain_entries (arm_of (bundle p.n parents kinds origins axes links rotors) q) p r kinds
 
@@ -44,7 +43,7 @@ module _ (mode : Mode) (n : ℕ) (parents kinds : List ℕ) (origins axes links 
     unfolding plan_by
     mine-is = rw (ep, ea, ef, er)
 
-    call-is : plain_call mode m q out ≡ cond (all_finite mine) (Accepted, mine) (outcome.Refused 37 Nothing, out)
+    call-is : plain_call mode m q out ≡ cond (all_finite mine) (Accepted, mine) (outcome.Refused (refusal 37 None), out)
     unfolding plain_call plain_matrix
     call-is = rw (judged-so ∙ e, mine-is)
 
@@ -52,5 +51,5 @@ module _ (mode : Mode) (n : ℕ) (parents kinds : List ℕ) (origins axes links 
       pub call-accepted : b ≡ true → {out' : List Float} → out' ≡ mine → ◌≡◌ {A = Outcome × List Float} (Accepted, out') (plain_call mode m q out)
       call-accepted t h = rw (call-is, sym g ∙ t, h)
 
-      pub call-37 : b ≡ false → ◌≡◌ {A = Outcome × List Float} (outcome.Refused 37 Nothing, out) (plain_call mode m q out)
+      pub call-37 : b ≡ false → ◌≡◌ {A = Outcome × List Float} (outcome.Refused (refusal 37 None), out) (plain_call mode m q out)
       call-37 t = rw (call-is, sym g ∙ t)

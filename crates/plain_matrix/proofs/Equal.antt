@@ -14,11 +14,8 @@ use Rattle.numbers.specs.Double.{all_finite}
 use Rattle.numbers.specs.Table.{tab}
 use Rattle.numbers.proofs.Tables.{length-tab, get_or-tab}
 use Rattle.numbers.specs.declared.quaternion.Quaternion.{Quaternion}
-use Rattle.refusals.specs.Refusals.{plain_of, or_else}
-use Rattle.refusals.specs.declared.Place.{Place}
-use Rattle.refusals.specs.declared.Place.TheVariants.{Nothing}
-use Rattle.refusals.specs.declared.Verdict.{Verdict}
-use Rattle.refusals.specs.declared.Verdict.TheVariants.{Fine, Refused}
+use Rattle.refusals.specs.Refusals.{plain_of, or_else, Verdict, fine, refused, refusal}
+use Rattle.std.specs.Prelude.{Option, None, Ok, Err}
 use Rattle.slots.specs.Slots.{part_of, cleared}
 use Rattle.slots.proofs.Lengths.{length-cleared}
 use Rattle.slots.proofs.Blocks.{split}
@@ -86,13 +83,13 @@ module _ (p : Plan) (r : Quaternion) (m : Model) (q ws : List Float) (room : roo
   -- what the root's visit answers, and what the output is then
   pub answers : (out : List Float) → length out ≡ p.side * p.side → (s : Outcome × List Float) → s ≡ root_visit p r (stage p r m q (last p r m q) ws)
       → ◌≡◌ {A = Outcome × List Float} (s.0, (closing (matrix_place p.n) s.0 s.1 out).1)
-      (cond (all_finite (plain_entries (arm_of m q) p r m.kinds)) (Accepted, plain_entries (arm_of m q) p r m.kinds) (outcome.Refused 37 Nothing, out))
+      (cond (all_finite (plain_entries (arm_of m q) p r m.kinds)) (Accepted, plain_entries (arm_of m q) p r m.kinds) (outcome.Refused (refusal 37 None), out))
   unfolding root_visit tested closing
   answers out l s e = rw (e, tests) (go (all_finite (plain_entries (arm_of m q) p r m.kinds)))
     where
       go : (b : Bool) → ◌≡◌ {A = Outcome × List Float}
-          (cond b Accepted (outcome.Refused 37 Nothing), (closing (matrix_place p.n) (cond b Accepted (outcome.Refused 37 Nothing)) full out).1)
-          (cond b (Accepted, plain_entries (arm_of m q) p r m.kinds) (outcome.Refused 37 Nothing, out))
+          (cond b Accepted (outcome.Refused (refusal 37 None)), (closing (matrix_place p.n) (cond b Accepted (outcome.Refused (refusal 37 None))) full out).1)
+          (cond b (Accepted, plain_entries (arm_of m q) p r m.kinds) (outcome.Refused (refusal 37 None), out))
       go true = rw (l, waits)
       go false = refl
 
@@ -125,7 +122,7 @@ module _ (mode : Mode) (m : Model) (q ws out : List Float) where
   first = (opening (fresh_at true (floats mode) m.n (actives_of m.kinds m.n)), cleared ws, out)
 
   -- where the checks pass
-  passed-same : verdict ≡ Fine → seen (whole_of (mass_matrix mode m q) ws out) ≡ plain_matrix mode m q out
+  passed-same : verdict ≡ fine → seen (whole_of (mass_matrix mode m q) ws out) ≡ plain_matrix mode m q out
   unfolding whole_of mass_matrix plain_matrix answer_by advanced_by
   passed-same v =
       let ready = plan-ready (floats mode) (rotation_of mode) m.n m.parents m.kinds q (length ws) (length out) v (active_numbers m.kinds) (actives_of m.kinds m.n) plan refl refl refl in
@@ -135,7 +132,7 @@ module _ (mode : Mode) (m : Model) (q ws out : List Float) where
       ∙ answers plan (rotation_of mode) m q (cleared ws) (omega (arith, length-cleared ws, ready.room.room)) ready.fit joints out ready.output
       (root_visit plan (rotation_of mode) (stage plan (rotation_of mode) m q (last plan (rotation_of mode) m q) (cleared ws))) refl)
 
-  refused-same : (number : ℕ) (i : Place) → verdict ≡ Refused number i → seen (whole_of (mass_matrix mode m q) ws out) ≡ (outcome.Refused number i, out)
+  refused-same : (number : ℕ) (i : Option ℕ) → verdict ≡ refused number i → seen (whole_of (mass_matrix mode m q) ws out) ≡ (outcome.Refused (refusal number i), out)
   unfolding whole_of mass_matrix refused_at
   refused-same number i e = rw e
 
@@ -155,23 +152,23 @@ module _ (mode : Mode) (m : Model) (q ws out : List Float) where
   equal h = go verdict refl
     where
       go : (v : Verdict) → verdict ≡ v → seen (whole_of (mass_matrix mode m q) ws out) ≡ plain_call mode m q out
-      go Fine e = passed-same e ∙ rw (sym (verdict-same h) ∙ e)
-      go (Refused number i) e = refused-same number i e ∙ rw (sym (verdict-same h) ∙ e)
+      go (Ok u) e = passed-same e ∙ rw (sym (verdict-same h) ∙ e)
+      go (Err r) e = refused-same r.number r.place e ∙ rw (sym (verdict-same h) ∙ e)
 
   -- ---- and with a shorter one
 
   -- 9 in both
   wild-same : wild_of m.n m.parents m.kinds ≡ true → seen (whole_of (mass_matrix mode m q) ws out) ≡ plain_call mode m q out
   unfolding inputs_verdict plain_verdict plain_call plain_of or_else
-  wild-same e = refused-same 9 Nothing (rw e) ∙ rw e
+  wild-same e = refused-same 9 None (rw e) ∙ rw e
 
   -- or 10 in the fast one
-  short : length ws < roomy → wild_of m.n m.parents m.kinds ≡ false → seen (whole_of (mass_matrix mode m q) ws out) ≡ (outcome.Refused 10 Nothing, out)
+  short : length ws < roomy → wild_of m.n m.parents m.kinds ≡ false → seen (whole_of (mass_matrix mode m q) ws out) ≡ (outcome.Refused (refusal 10 None), out)
   unfolding inputs_verdict plain_of or_else
-  short h e = refused-same 10 Nothing (rw (e, lt-ltb (length ws) roomy h))
+  short h e = refused-same 10 None (rw (e, lt-ltb (length ws) roomy h))
 
   -- THE SAME, 10 EXCEPTED: whatever the workspace
-  pub same-but-10 : (seen (whole_of (mass_matrix mode m q) ws out) ≡ (outcome.Refused 10 Nothing, out) → ⊥) → seen (whole_of (mass_matrix mode m q) ws out) ≡ plain_call mode m q out
+  pub same-but-10 : (seen (whole_of (mass_matrix mode m q) ws out) ≡ (outcome.Refused (refusal 10 None), out) → ⊥) → seen (whole_of (mass_matrix mode m q) ws out) ≡ plain_call mode m q out
   same-but-10 f = ⊎_elim (λ h. go h (wild_of m.n m.parents m.kinds) refl) equal (split (length ws) roomy)
     where
       go : length ws < roomy → (b : Bool) → wild_of m.n m.parents m.kinds ≡ b → seen (whole_of (mass_matrix mode m q) ws out) ≡ plain_call mode m q out

@@ -2,7 +2,7 @@
 use mathlib.Core.Bool.{Bool, true, false, cond}
 use mathlib.Core.List.{List}
 use mathlib.Core.Logic.{⊎_elim}
-use mathlib.Core.Path.{◌≡◌, refl, sym, ap, ap₂, ◌∙◌}
+use mathlib.Core.Path.{◌≡◌, refl, ap, ap₂, ◌∙◌}
 use Prim.Native.Nat.{ℕ, ◌-◌, ◌≤◌, ◌<◌}
 use native.Mathlib.Omega.{arith}
 use borrow.Author.Tests.{eqb-true, eqb-false, ltb-true, ltb-false}
@@ -10,16 +10,14 @@ use lib.Dec.{eqb, ltb}
 use lib.ListN.{length, get_or}
 use lib.Ieee.{Float, nan}
 use Rattle.numbers.specs.declared.quaternion.Quaternion.{Quaternion}
-use Rattle.refusals.specs.declared.Place.{Place}
-use Rattle.refusals.specs.declared.Place.TheVariants.{At, Nothing}
 use Rattle.spatial.specs.Wrench.{vector_of}
 use Rattle.spatial.specs.declared.wrench.Wrench.{Wrench}
 use Rattle.slots.proofs.Blocks.{split}
-use Rattle.arm.specs.Topology.{actives_of, active_numbers, active_joint, Numbered}
+use Rattle.arm.specs.Topology.{actives_of, active_numbers, Numbered}
 use Rattle.arm.specs.declared.model.Link.{Link}
 use Rattle.arm.specs.declared.model.Model.{Model}
 use Rattle.arm.proofs.topology.Counts.{actives-below}
-use Rattle.arm.proofs.topology.Actives.{numbered, found-is}
+use Rattle.arm.proofs.topology.Actives.{numbered}
 use Rattle.calls.specs.Plan.{Fit}
 use Rattle.calls.specs.declared.plan.Plan.{Plan}
 use Rattle.composites.specs.Composite.{composite_at}
@@ -42,13 +40,9 @@ pub number_read : {w w' : Wrench} {v : List Float} → v ≡ vector_of w → w �
 unfolding number_of
 number_read e f k = ap (λ (l : List Float). get_or l k nan) e ∙ ap (λ (w : Wrench). get_or (vector_of w) k nan) f
 
--- what the search answers
-pub found-joint : (kinds : List ℕ) (n k j : ℕ) {found : Place} → found ≡ active_joint kinds n k → found ≡ At j → (j ≡ joint_with kinds n k) × (j < n)
-unfolding joint_with
-found-joint kinds n k j e f = (rw (sym e ∙ f), (found-is kinds n k j (sym e ∙ f)).joint)
-
-pub not_found : (kinds : List ℕ) (n k : ℕ) → k < actives_of kinds n → {found : Place} → found ≡ active_joint kinds n k → found ≡ Nothing → ⊥
-not_found kinds n k h e f = let (j, there, named) = numbered kinds n k h in let z : At j ≡ Nothing = sym there ∙ sym e ∙ f in let y : ◌≡◌ {A = ℕ} 0 1 = cc in omega arith
+-- what the code's search answers
+pub joint_found : (kinds : List ℕ) (n k j : ℕ) → k < actives_of kinds n → j ≡ joint_with kinds n k → (j ≡ joint_with kinds n k) × (j < n)
+joint_found kinds n k j h e = (e, rw e (with_number kinds n k h).joint)
 
 -- joints in the order of their active numbers
 pub ordered : (kinds : List ℕ) (I J : ℕ) → Active kinds J → actives_of kinds I ≤ actives_of kinds J → I ≤ J

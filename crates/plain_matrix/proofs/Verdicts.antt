@@ -1,5 +1,5 @@
--- The plain engine's checks, at each way out, and what they have shown. Assumes nothing.
-use mathlib.Core.Bool.{Bool, true, false}
+-- What the plain engine's checks have shown. Assumes nothing.
+use mathlib.Core.Bool.{Bool}
 use mathlib.Core.List.{List}
 use mathlib.Core.Path.{◌≡◌, ◌∙◌}
 use Prim.Native.Nat.{ℕ, ◌+◌, ◌*◌, ◌≤◌}
@@ -8,31 +8,19 @@ use borrow.Author.Tests.{le-ltb}
 use lib.ListN.{length}
 use lib.Ieee.{Float}
 use Rattle.numbers.specs.declared.quaternion.Quaternion.{Quaternion}
-use Rattle.refusals.specs.Refusals.{plain_of, or_else}
-use Rattle.refusals.specs.declared.Place.TheVariants.{Nothing}
-use Rattle.refusals.specs.declared.Verdict.{Verdict}
-use Rattle.refusals.specs.declared.Verdict.TheVariants.{Fine, Refused}
-use Rattle.arm.specs.Model.{wild_of, Good}
+use Rattle.refusals.specs.Refusals.{plain_of, or_else, fine}
+use Rattle.arm.specs.Model.{Good}
 use Rattle.arm.specs.Topology.{actives_of, active_numbers}
 use Rattle.arm.proofs.topology.Counts.{actives-le}
 use Rattle.calls.specs.Plan.{plan_by, plan_of}
 use Rattle.calls.specs.declared.plan.Plan.{Plan}
 use Rattle.composites.specs.Plan.{matrix_place}
-use Rattle.mass_matrix.specs.Checks.{tame_verdict, inputs_verdict}
+use Rattle.mass_matrix.specs.Checks.{inputs_verdict}
 use Rattle.mass_matrix.specs.MassMatrix.{Ready}
 use Rattle.mass_matrix.proofs.Ready.{passed-good, plan-ready}
 use Rattle.plain_matrix.specs.PlainMatrix.{plain_verdict}
 
 module _ (floating : Bool) (r : Quaternion) (n : ℕ) (parents kinds : List ℕ) (q : List Float) (out : ℕ) where
-  pub refuses-9 : wild_of n parents kinds ≡ true → Refused 9 Nothing ≡ plain_verdict floating r n parents kinds q out
-  unfolding plain_verdict plain_of or_else
-  refuses-9 e = rw e
-
-  pub goes_on : wild_of n parents kinds ≡ false → {p : Plan} (a : ℕ) → a ≡ actives_of kinds n → p ≡ plan_by floating n a → {v : Verdict}
-      → v ≡ tame_verdict n p.side floating r kinds q out → v ≡ plain_verdict floating r n parents kinds q out
-  unfolding plain_verdict plain_of or_else
-  goes_on e a ea ep h = h ∙ rw (e, ep, ea)
-
   -- they are the fast engine's, lent the workspace that it asks for
   abbrev room : ℕ
   room = matrix_place n + (plan_of floating n kinds).side * (plan_of floating n kinds).side
@@ -41,7 +29,7 @@ module _ (floating : Bool) (r : Quaternion) (n : ℕ) (parents kinds : List ℕ)
   unfolding inputs_verdict plain_verdict plain_of or_else
   with-room = rw (le-ltb room room (omega arith))
 
-  module _ (v : plain_verdict floating r n parents kinds q out ≡ Fine) where
+  module _ (v : plain_verdict floating r n parents kinds q out ≡ fine) where
     pub passed : Good n parents kinds
     passed = passed-good floating r n parents kinds q room out (with-room ∙ v)
 

@@ -1,14 +1,11 @@
 -- The plain mass matrix: every entry worked out by itself, with no workspace (document 02, item 10). Definitions only.
-use Rattle.std.specs.Prelude.{Bool, cond, List, ℕ, ◌-◌, ◌*◌, ◌/◌, ◌%◌, ltb, length, Float}
+use Rattle.std.specs.Prelude.{Bool, cond, List, ℕ, ◌-◌, ◌*◌, ◌/◌, ◌%◌, ltb, length, Float, Ok, Err}
 use Rattle.numbers.specs.Double.{all_finite}
 use Rattle.numbers.specs.Table.{tab}
 use Rattle.numbers.specs.declared.quaternion.Quaternion.{Quaternion}
-use Rattle.refusals.specs.Refusals.{plain_of, or_else}
-use Rattle.refusals.specs.declared.Place.{Place}
-use Rattle.refusals.specs.declared.Place.TheVariants.{At, Nothing}
-use Rattle.refusals.specs.declared.Verdict.{Verdict}
-use Rattle.refusals.specs.declared.Verdict.TheVariants.{Fine}
-use Rattle.refusals.specs.declared.Verdict.TheVariants as verdict
+use Rattle.refusals.specs.Refusals.{plain_of, or_else, Verdict, refusal}
+use Rattle.std.specs.Prelude.{None}
+use Rattle.std.specs.Option.{unwrap_or}
 use Rattle.spatial.specs.Wrench.{rotated_of}
 use Rattle.arm.specs.Model.{wild_of}
 use Rattle.arm.specs.Topology.{active_joint}
@@ -28,12 +25,8 @@ use Rattle.mass_matrix.specs.declared.mass_matrix.Mode.{Mode}
 -- ---- an entry by its row and column
 
 -- the joint of active number k; each number below a is some joint's (`numbered` of `arm`)
-abbrev pub the_joint : Place → ℕ
-the_joint (At j) = j
-the_joint Nothing = 0
-
 unfoldable pub joint_with : List ℕ → ℕ → ℕ → ℕ
-joint_with kinds n k = the_joint (active_joint kinds n k)
+joint_with kinds n k = unwrap_or (active_joint kinds n k) 0
 
 -- of two active numbers the higher one is the column's
 unfoldable pub joint_entry : Arm → List ℕ → ℕ → ℕ → Float
@@ -70,7 +63,7 @@ plain_entries a p r kinds = tab (plain_number a p r kinds) (p.side * p.side)
 unfoldable pub plain_matrix : Mode → Model → List Float → List Float → Outcome × List Float
 plain_matrix mode m q out =
     let entries = plain_entries (arm_of m q) (plan_of (floats mode) m.n m.kinds) (rotation_of mode) m.kinds in
-    cond (all_finite entries) (Accepted, entries) (Refused 37 Nothing, out)
+    cond (all_finite entries) (Accepted, entries) (Refused (refusal 37 None), out)
 
 -- ---- the call
 
@@ -81,8 +74,8 @@ plain_verdict floating r n parents kinds q out =
 
 -- a refusal leaves the output
 abbrev pub unless : Verdict → List Float → Outcome × List Float → Outcome × List Float
-unless Fine out r = r
-unless (verdict.Refused number i) out r = (Refused number i, out)
+unless (Ok u) out made = made
+unless (Err r) out made = (Refused r, out)
 
 -- THE CALL: what is answered, and the output's numbers after it
 unfoldable pub plain_call : Mode → Model → List Float → List Float → Outcome × List Float

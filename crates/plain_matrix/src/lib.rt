@@ -14,9 +14,10 @@ use calls::position::Outcome;
 use mass_matrix::checks;
 use mass_matrix::mass_matrix::Mode;
 use numbers::quaternion::Quaternion;
-use refusals::{Place, Verdict};
+use refusals::Refusal;
 
 // The checks of the matrix but for 10.
+#[tactic(auto, using(arm::proofs::topology::Counts::bounds), unfolding(crate::specs::PlainMatrix::plain_verdict, refusals::specs::Refusals::plain_of, refusals::specs::Refusals::or_else))]
 fn judged<'a>(
     floating: bool,
     r: Quaternion,
@@ -26,16 +27,15 @@ fn judged<'a>(
     numbers: &'a [u8; 33],
     q: &'a [f64],
     out: usize,
-) -> Verdict
+) -> Result<(), Refusal>
     requires { numbers.now ≡ active_numbers kinds.now }
     ensures { result ≡ plain_verdict floating r n parents.now kinds.now q.now out }
 {
     if model::wild(n, parents, kinds) {
-        return Verdict::Refused(9, Place::Nothing);
+        return Err(Refusal::plain(9));
     }
     let a = topology::number_at(kinds, numbers, n);
-    let p = plan::planned(floating, n, a);
-    let side = p.side;
+    let side = plan::planned(floating, n, a).side;
     checks::judged_tame(n, side, floating, r, kinds, numbers, a, q, out)
 }
 
@@ -57,10 +57,9 @@ pub fn plain_matrix<'a>(
     let floating = mode.floats();
     let r = mode.rotation();
     let numbers = topology::active_numbers(kinds);
-    let v = judged(floating, r, n, parents, kinds, &numbers, q, out.len());
-    match v {
-        Verdict::Refused(number, place) => Outcome::Refused(number, place),
-        Verdict::Fine => {
+    match judged(floating, r, n, parents, kinds, &numbers, q, out.len()) {
+        Err(refusal) => Outcome::Refused(refusal),
+        Ok(()) => {
             let a = topology::number_at(kinds, &numbers, n);
             let p = plan::planned(floating, n, a);
             let finite = matrix::entries_finite(
@@ -72,7 +71,7 @@ pub fn plain_matrix<'a>(
                 );
                 return Outcome::Accepted;
             }
-            Outcome::Refused(37, Place::Nothing)
+            Outcome::Refused(Refusal::plain(37))
         }
     }
 }

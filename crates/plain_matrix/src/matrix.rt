@@ -13,18 +13,14 @@ use matrix_visits::kernel;
 use numbers::double;
 use numbers::quaternion::Quaternion;
 use plain_entries::{entries, gather};
-use refusals::Place;
 
 // The joint of active number k.
+#[tactic(auto, using(crate::proofs::Roots::joint_found, arm::proofs::topology::Counts::bounds), unfolding(crate::specs::PlainMatrix::joint_with))]
 pub fn joint_with<'a>(kinds: &'a [u8; 32], numbers: &'a [u8; 33], n: usize, k: usize) -> usize
     requires { (numbers.now ≡ active_numbers kinds.now) × (n ≤ 32) × (k < actives_of kinds.now n) }
     ensures { (result ≡ joint_with kinds.now n k) × (result < n) }
 {
-    let found = topology::active_joint(kinds, numbers, n, k);
-    match found {
-        Place::At(j) => j,
-        Place::Nothing => 0,
-    }
+    topology::active_joint(kinds, numbers, n, k).unwrap_or(0)
 }
 
 // The entry of two active numbers: the higher one is the column's.
@@ -58,6 +54,7 @@ fn joint_entry<'a>(
 }
 
 // Between the base's direction k and active number c.
+#[tactic(auto, unfolding(crate::specs::PlainMatrix::base_entry, plain_entries::specs::Entries::number_of))]
 fn base_entry<'a>(
     n: usize,
     parents: &'a [u8; 32],
@@ -84,6 +81,7 @@ fn base_entry<'a>(
 }
 
 // Between two directions of the base.
+#[tactic(auto, unfolding(crate::specs::PlainMatrix::corner_entry, plain_entries::specs::Entries::number_of))]
 fn corner_entry<'a>(
     n: usize,
     parents: &'a [u8; 32],
@@ -109,6 +107,7 @@ fn corner_entry<'a>(
 }
 
 // Any entry.
+#[tactic(auto, unfolding(crate::specs::PlainMatrix::entry_at))]
 fn entry_at<'a>(
     n: usize,
     parents: &'a [u8; 32],
@@ -232,18 +231,11 @@ pub fn entries_finite<'a>(
     requires { Fit p parents.now kinds.now numbers.now × (length q.now ≡ actives_of kinds.now p.n) × (p.side ≤ 38) }
     ensures { result ≡ all_finite (plain_entries (arm_of (bundle p.n parents.now kinds.now origins.now axes.now links.now rotors.now) q.now) p r kinds.now) }
 {
-    let side = p.side;
-    let count = side * side;
-    let mut ok = true;
-    let mut k: usize = 0;
-    while k < count {
-        let x = number(
-            p, parents, kinds, origins, axes, links, rotors, numbers, q, r, k,
-        );
-        ok = double::both(ok, double::is_finite(x));
-        k += 1;
-    }
-    ok
+    (0..p.side * p.side).all(|t| {
+        double::is_finite(number(
+            p, parents, kinds, origins, axes, links, rotors, numbers, q, r, t,
+        ))
+    })
 }
 
 // Every entry is written.
@@ -263,14 +255,9 @@ pub fn put_entries<'a>(
     requires { Fit p parents.now kinds.now numbers.now × (length q.now ≡ actives_of kinds.now p.n) × (p.side ≤ 38) × (length out.old ≡ p.side * p.side) }
     ensures { out.new ≡ plain_entries (arm_of (bundle p.n parents.now kinds.now origins.now axes.now links.now rotors.now) q.now) p r kinds.now }
 {
-    let side = p.side;
-    let count = side * side;
-    let mut k: usize = 0;
-    while k < count {
-        let x = number(
-            p, parents, kinds, origins, axes, links, rotors, numbers, q, r, k,
+    for (t, entry) in out.iter_mut().enumerate() {
+        *entry = number(
+            p, parents, kinds, origins, axes, links, rotors, numbers, q, r, t,
         );
-        slots::put_number(out, k, x);
-        k += 1;
     }
 }

@@ -1,14 +1,12 @@
 -- What a calculation's request hands in, as readers of the words of a line. Assumes nothing.
-use Rattle.std.specs.Prelude.{Bool, true, false, cond, ◌||◌, List, [], ℕ, ◌≤◌, eqb, ltb, length, take, get_or, Float}
-use Rattle.std.proofs.Math.Option.{Option, none, some}
+use Rattle.std.specs.Prelude.{Bool, true, false, cond, ◌||◌, List, [], ℕ, eqb, ltb, get_or, bytes_eq, codes, Float, Option, Some, None}
 use Rattle.std.specs.Float.{nan, binary64}
 use Rattle.std.specs.Float.Ieee.{of_bits}
-use Rattle.words.specs.Read.{Reader, give, fail, ◌>>=◌, ◌>>◌, word, same_of, number, end, ReadBy}
-use Rattle.words.specs.declared.read.Cursor.{Cursor}
+use Rattle.words.specs.Read.{Reader, give, fail, given, ◌>>=◌, ◌>>◌, word, number, end}
 use Rattle.words.specs.List.{items, numbers, doubles}
-use Rattle.words.specs.Write.{bytes}
 use Rattle.slots.specs.Slots.{vec3_at, twist_at}
 use Rattle.numbers.specs.declared.quaternion.Quaternion.{Quaternion}
+use Rattle.spatial.specs.declared.twist.Twist.{Twist}
 use Rattle.calls.specs.declared.position.Position.{Position}
 use Rattle.mass_matrix.specs.declared.mass_matrix.Mode.{Mode}
 use Rattle.mass_matrix.specs.declared.mass_matrix.Mode.TheVariants as matrix
@@ -18,77 +16,58 @@ use Rattle.dynamics.specs.declared.calculation.Calculation.{Calculation}
 use Rattle.dynamics.specs.declared.calculation.Calculation.TheVariants as of
 use Rattle.readings.specs.declared.read.Kind.{Kind}
 use Rattle.readings.specs.declared.read.Kind.TheVariants.{Matrix, FloatingMatrix, Forward, FloatingForward}
-use Rattle.readings.specs.declared.read.Named.{Named}
-use Rattle.readings.specs.declared.read.Named.TheVariants.{Is, No}
-use Rattle.readings.specs.declared.read.NextFlag.{NextFlag}
-use Rattle.readings.specs.declared.read.NextFlag.TheVariants as flag·
-use Rattle.readings.specs.declared.read.NextPosition.{NextPosition}
-use Rattle.readings.specs.declared.read.NextPosition.TheVariants as position·
-use Rattle.readings.specs.declared.read.NextKind.{NextKind}
-use Rattle.readings.specs.declared.read.NextKind.TheVariants as kind·
-use Rattle.readings.specs.declared.read.NextMode.{NextMode}
-use Rattle.readings.specs.declared.read.NextMode.TheVariants as mode·
-use Rattle.readings.specs.declared.read.NextCalculation.{NextCalculation}
-use Rattle.readings.specs.declared.read.NextCalculation.TheVariants as calculation·
-use Rattle.readings.specs.declared.read.Sizes.{Sizes}
-use Rattle.readings.specs.declared.read.NextInputs.{NextInputs}
-use Rattle.readings.specs.declared.read.NextInputs.TheVariants as inputs·
+use Rattle.readings.specs.declared.read.Buffers.{Buffers}
 use Rattle.readings.specs.declared.read.Lent.{Lent}
-use Rattle.readings.specs.declared.read.LastLent.{LastLent}
-use Rattle.readings.specs.declared.read.LastLent.TheVariants as lengths·
 
 -- ---- the calculation
 
 -- the request that a word names, if it makes a calculation
-unfoldable pub kind_named : List ℕ → Named
+unfoldable pub kind_named : List ℕ → Option Kind
 kind_named w =
-    cond (same_of w (bytes "matrix")) (Is Matrix)
-    (cond (same_of w (bytes "floating_matrix")) (Is FloatingMatrix)
-    (cond (same_of w (bytes "forward")) (Is Forward)
-    (cond (same_of w (bytes "floating_forward")) (Is FloatingForward)
-    No)))
-
-abbrev pub named : Named → Reader Kind
-named (Is k) = give k
-named No = fail
+    cond (bytes_eq w (codes "matrix")) (Some Matrix)
+    (cond (bytes_eq w (codes "floating_matrix")) (Some FloatingMatrix)
+    (cond (bytes_eq w (codes "forward")) (Some Forward)
+    (cond (bytes_eq w (codes "floating_forward")) (Some FloatingForward)
+    None)))
 
 unfoldable pub kind : Reader Kind
 kind = do
   w ← word
-  named (kind_named w)
+  given (kind_named w)
 
--- how many numbers say how the root stands: R, w x y z, is four, and V, angular then linear, six more
-abbrev pub root_numbers : Kind → ℕ
-root_numbers Matrix = 0
-root_numbers FloatingMatrix = 4
-root_numbers Forward = 4
-root_numbers FloatingForward = 10
+-- R, how the root is turned: w x y z
+unfoldable pub rotation : Reader Quaternion
+rotation = do
+  l ← items (of_bits binary64) 4
+  give (record { w = get_or l 0 nan; u = vec3_at l 1 })
 
-abbrev pub rotation_from : List Float → Quaternion
-rotation_from l = record { w = get_or l 0 nan; u = vec3_at l 1 }
+-- V, how the root moves: angular, then linear
+unfoldable pub velocity : Reader Twist
+velocity = do
+  l ← items (of_bits binary64) 6
+  give (twist_at l 0)
 
 -- the root of a matrix: turned by R where it floats
-abbrev pub mode_numbers : Bool → ℕ
-mode_numbers floating = cond floating 4 0
-
-abbrev pub mode_by : Bool → List Float → Mode
-mode_by floating l = cond floating (matrix.Floating (rotation_from l)) matrix.Fixed
-
 unfoldable pub mode : Bool → Reader Mode
-mode floating = do
-  l ← items (of_bits binary64) (mode_numbers floating)
-  give (mode_by floating l)
-
-unfoldable pub calculation_by : Kind → List Float → Calculation
-calculation_by Matrix l = of.Matrix (mode_by false l)
-calculation_by FloatingMatrix l = of.Matrix (mode_by true l)
-calculation_by Forward l = of.Forward (forward.Fixed (rotation_from l))
-calculation_by FloatingForward l = of.Forward (forward.Floating (rotation_from l) (twist_at l 4))
+mode false = give matrix.Fixed
+mode true = do
+  r ← rotation
+  give (matrix.Floating r)
 
 unfoldable pub calculation : Kind → Reader Calculation
-calculation k = do
-  l ← items (of_bits binary64) (root_numbers k)
-  give (calculation_by k l)
+calculation Matrix = do
+  m ← mode false
+  give (of.Matrix m)
+calculation FloatingMatrix = do
+  m ← mode true
+  give (of.Matrix m)
+calculation Forward = do
+  r ← rotation
+  give (of.Forward (forward.Fixed r))
+calculation FloatingForward = do
+  r ← rotation
+  v ← velocity
+  give (of.Forward (forward.Floating r v))
 
 -- ---- its inputs: Q, or Q QD F LINKS LOADS
 unfoldable pub rest : List Float → Reader Inputs
@@ -141,59 +120,12 @@ position = do
   closed ← flag
   give (record { matrix = matrix; floating = floating; n = n; a = a; visits = visits; closed = closed })
 
--- ---- what the functions answer
-abbrev pub flag_of : NextFlag → Option (Bool × Cursor)
-flag_of (flag·.Is b c) = some (b, c)
-flag_of flag·.No = none
+-- ---- what the functions have read
+abbrev pub no_inputs : Inputs
+no_inputs = inputs_by [] [] [] [] []
 
-abbrev pub position_of : NextPosition → Option (Position × Cursor)
-position_of (position·.Is p c) = some (p, c)
-position_of position·.No = none
+abbrev pub inputs_of : Buffers → Inputs
+inputs_of b = inputs_by b.q b.qd b.forces b.loaded b.loads
 
-abbrev pub kind_of : NextKind → Option (Kind × Cursor)
-kind_of (kind·.Is k c) = some (k, c)
-kind_of kind·.No = none
-
-abbrev pub mode_of : NextMode → Option (Mode × Cursor)
-mode_of (mode·.Is m c) = some (m, c)
-mode_of mode·.No = none
-
-abbrev pub calculation_of : NextCalculation → Option (Calculation × Cursor)
-calculation_of (calculation·.Is k c) = some (k, c)
-calculation_of calculation·.No = none
-
--- the first items of the lent lists
-abbrev pub inputs_from : Sizes → List Float → List Float → List Float → List ℕ → List Float → Inputs
-inputs_from k q qd forces loaded loads = inputs_by (take k.q q) (take k.qd qd) (take k.forces forces) (take k.loaded loaded) (take k.loads loads)
-
-abbrev pub inputs_of : List Float → List Float → List Float → List ℕ → List Float → NextInputs → Option (Inputs × Cursor)
-inputs_of q qd forces loaded loads (inputs·.Is k c) = some (inputs_from k q qd forces loaded loads, c)
-inputs_of q qd forces loaded loads inputs·.No = none
-
--- the lent lists have so many
-pub record SizesIn (k : Sizes) (p d f : List Float) (l : List ℕ) (w : List Float) : Type 0 where
-  pub q : k.q ≤ length p
-  pub qd : k.qd ≤ length d
-  pub forces : k.forces ≤ length f
-  pub loaded : k.loaded ≤ length l
-  pub loads : k.loads ≤ length w
-
-abbrev pub InputsFit : List Float → List Float → List Float → List ℕ → List Float → NextInputs → Type 0
-InputsFit q qd forces loaded loads (inputs·.Is k c) = SizesIn k q qd forces loaded loads
-InputsFit q qd forces loaded loads inputs·.No = Unit
-
-abbrev pub InputsBy : Reader Inputs → List ℕ → Cursor → List Float → List Float → List Float → List ℕ → List Float → NextInputs → Type 0
-InputsBy reader s c q qd forces loaded loads r = ReadBy reader s c (inputs_of q qd forces loaded loads r) × InputsFit q qd forces loaded loads r
-
--- QD F LINKS LOADS, behind any Q of at least n numbers, the first n of which were read
-abbrev pub RestRead : List ℕ → Cursor → ℕ → NextInputs → List Float → List Float → List ℕ → List Float → Type 0
-RestRead s c n r qd forces loaded loads = (q : List Float) → n ≤ length q → InputsBy (rest (take n q)) s c q qd forces loaded loads r
-
--- no word is left behind the lengths
-abbrev pub lengths_read : LastLent → List ℕ → Option (Lengths × List (List ℕ))
-lengths_read (lengths·.Is l) budgets = some (record { ws = l.ws; out = l.out; budgets = take l.budgets budgets }, [])
-lengths_read lengths·.No budgets = none
-
-abbrev pub LengthsIn : LastLent → List ℕ → Type 0
-LengthsIn (lengths·.Is l) budgets = (l.ws ≤ 4096) × (l.out ≤ 2048) × (l.budgets ≤ 4096) × (l.budgets ≤ length budgets)
-LengthsIn lengths·.No budgets = Unit
+abbrev pub lengths_by : Lent → List ℕ → Lengths
+lengths_by l budgets = record { ws = l.ws; out = l.out; budgets = budgets }

@@ -13,9 +13,5 @@ pub fn output_buffer() -> [f64; 2048]
 pub fn fill(s: &mut [f64])
     ensures { s.new ≡ ones (length s.old) }
 {
-    let mut i: usize = 0;
-    while i < s.len() {
-        s[i] = 1.0;
-        i += 1;
-    }
+    s.fill(1.0);
 }

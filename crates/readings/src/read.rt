@@ -1,15 +1,16 @@
 // What a calculation's request hands in, read off the words of a line.
-ghost use Rattle.std.specs.Prelude.{◌≡◌, ◌≤◌, length};
-ghost use Rattle.words.specs.Read.{words_at, ReadBy};
-ghost use Rattle.readings.specs.Read.{kind_named, kind, root_numbers, rotation_from, mode_numbers, mode_by, calculation_by, mode, calculation, inputs, lengths, flag, position, flag_of, position_of, kind_of, mode_of, calculation_of, InputsBy, RestRead, lengths_read, LengthsIn};
+ghost use Rattle.std.specs.Prelude.{◌≡◌, ◌≤◌, [], option_map, IfSome};
+ghost use Rattle.words.specs.Read.{ReadBy};
+ghost use Rattle.readings.specs.Read.{kind_named, kind, rotation, velocity, mode, calculation, rest, inputs, no_inputs, inputs_of, lengths, lengths_by, flag, position};
 
+use crate::buffer::Buffer;
 use calls::position::Position;
 use dynamics::calculation::Calculation;
 use forward_dynamics::forward_dynamics as forward;
 use mass_matrix::mass_matrix as matrix;
 use numbers::quaternion::Quaternion;
-use words::list::{Listed, doubles, fill_doubles, numbers};
-use words::read::{Cursor, Next, at_end, next_number, next_word, same};
+use spatial::twist::Twist;
+use words::read::Words;
 
 // The four requests that make a calculation.
 #[derive(Clone, Copy)]
@@ -20,322 +21,181 @@ pub enum Kind {
     FloatingForward,
 }
 
-#[derive(Clone, Copy)]
-pub enum Named {
-    Is(Kind),
-    No,
+// The lists of a calculation's inputs.
+#[derive(Drop)]
+pub struct Buffers {
+    pub q: Buffer<f64>,
+    pub qd: Buffer<f64>,
+    pub forces: Buffer<f64>,
+    pub loaded: Buffer<u64>,
+    pub loads: Buffer<f64>,
 }
 
-// What was read, with the cursor past it.
-#[derive(Clone, Copy)]
-pub enum NextFlag {
-    Is(bool, Cursor),
-    No,
-}
-
-#[derive(Clone, Copy)]
-pub enum NextPosition {
-    Is(Position, Cursor),
-    No,
-}
-
-#[derive(Clone, Copy)]
-pub enum NextKind {
-    Is(Kind, Cursor),
-    No,
-}
-
-#[derive(Clone, Copy)]
-pub enum NextMode {
-    Is(matrix::Mode, Cursor),
-    No,
-}
-
-#[derive(Clone, Copy)]
-pub enum NextCalculation {
-    Is(Calculation, Cursor),
-    No,
-}
-
-// How many numbers each list of inputs has.
-#[derive(Clone, Copy)]
-pub struct Sizes {
-    pub q: usize,
-    pub qd: usize,
-    pub forces: usize,
-    pub loaded: usize,
-    pub loads: usize,
-}
-
-#[derive(Clone, Copy)]
-pub enum NextInputs {
-    Is(Sizes, Cursor),
-    No,
-}
-
-// The lengths that are lent, and how many budgets there are.
+// The lengths that are lent.
 #[derive(Clone, Copy)]
 pub struct Lent {
     pub ws: usize,
     pub out: usize,
-    pub budgets: usize,
 }
 
-#[derive(Clone, Copy)]
-pub enum LastLent {
-    Is(Lent),
-    No,
-}
-
-pub fn kind_of(w: &[u8]) -> Named
+#[tactic(auto, unfolding(crate::specs::Read::kind_named))]
+pub fn kind_of(w: &[u8]) -> Option<Kind>
     ensures { result ≡ kind_named w.now }
 {
-    if same(w, b"matrix") {
-        return Named::Is(Kind::Matrix);
+    if w == b"matrix".as_slice() {
+        Some(Kind::Matrix)
+    } else if w == b"floating_matrix".as_slice() {
+        Some(Kind::FloatingMatrix)
+    } else if w == b"forward".as_slice() {
+        Some(Kind::Forward)
+    } else if w == b"floating_forward".as_slice() {
+        Some(Kind::FloatingForward)
+    } else {
+        None
     }
-    if same(w, b"floating_matrix") {
-        return Named::Is(Kind::FloatingMatrix);
-    }
-    if same(w, b"forward") {
-        return Named::Is(Kind::Forward);
-    }
-    if same(w, b"floating_forward") {
-        return Named::Is(Kind::FloatingForward);
-    }
-    Named::No
 }
 
 // 0 or 1.
-pub fn next_flag(s: &[u8], c: Cursor) -> NextFlag
-    requires { c.at ≤ length s.now }
-    ensures { ReadBy flag s.now c (flag_of result) }
+#[tactic(auto, unfolding(crate::specs::Read::flag))]
+pub fn next_flag(words: &mut Words) -> Option<bool>
+    ensures { ReadBy flag words.old result words.new }
 {
-    let Next::Is(v, d) = next_number(s, c) else {
-        return NextFlag::No;
-    };
-    if 1 < v {
-        return NextFlag::No;
+    match words.next_number()? {
+        0 => Some(false),
+        1 => Some(true),
+        _ => None,
     }
-    NextFlag::Is(v == 1, d)
 }
 
 // CALCULATION ROOT N A VISITS CLOSED.
-pub fn next_position(s: &[u8], c: Cursor) -> NextPosition
-    requires { c.at ≤ length s.now }
-    ensures { ReadBy position s.now c (position_of result) }
+#[tactic(auto, unfolding(crate::specs::Read::position))]
+pub fn next_position(words: &mut Words) -> Option<Position>
+    ensures { ReadBy position words.old result words.new }
 {
-    let NextFlag::Is(matrix, c0) = next_flag(s, c) else {
-        return NextPosition::No;
-    };
-    let NextFlag::Is(floating, c1) = next_flag(s, c0) else {
-        return NextPosition::No;
-    };
-    let Next::Is(n, c2) = next_number(s, c1) else {
-        return NextPosition::No;
-    };
-    let Next::Is(a, c3) = next_number(s, c2) else {
-        return NextPosition::No;
-    };
-    let Next::Is(visits, c4) = next_number(s, c3) else {
-        return NextPosition::No;
-    };
-    let NextFlag::Is(closed, c5) = next_flag(s, c4) else {
-        return NextPosition::No;
-    };
-    let position = Position {
-        matrix,
-        floating,
-        n: n as usize,
-        a: a as usize,
-        visits: visits as usize,
-        closed,
-    };
-    NextPosition::Is(position, c5)
+    Some(Position {
+        matrix: next_flag(words)?,
+        floating: next_flag(words)?,
+        n: words.next_number()? as usize,
+        a: words.next_number()? as usize,
+        visits: words.next_number()? as usize,
+        closed: next_flag(words)?,
+    })
 }
 
-pub fn next_kind(s: &[u8], c: Cursor) -> NextKind
-    requires { c.at ≤ length s.now }
-    ensures { ReadBy kind s.now c (kind_of result) }
+#[tactic(auto, unfolding(crate::specs::Read::kind))]
+pub fn next_kind(words: &mut Words) -> Option<Kind>
+    ensures { ReadBy kind words.old result words.new }
 {
-    let w = next_word(s, c);
-    let start = w.start;
-    let stop = w.stop;
-    let Named::Is(k) = kind_of(&s[start..stop]) else {
-        return NextKind::No;
-    };
-    NextKind::Is(k, Cursor { at: stop })
+    kind_of(words.next_word()?)
 }
 
-// How many numbers say how the root stands.
-fn root_numbers(k: Kind) -> u64
-    ensures { (result ≡ root_numbers k) × (result ≤ 10) }
+// R: w x y z.
+#[tactic(auto, unfolding(crate::specs::Read::rotation))]
+fn next_rotation(words: &mut Words) -> Option<Quaternion>
+    ensures { ReadBy rotation words.old result words.new }
 {
-    match k {
-        Kind::Matrix => 0,
-        Kind::FloatingMatrix => 4,
-        Kind::Forward => 4,
-        Kind::FloatingForward => 10,
-    }
+    let mut numbers = [0.0; 4];
+    words.fill(&mut numbers)?;
+    let w = numbers[0];
+    let u = slots::vec3_at(&numbers, 1);
+    Some(Quaternion { w, u })
 }
 
-// w x y z.
-fn rotation(root: &[f64]) -> Quaternion
-    requires { 4 ≤ length root.now }
-    ensures { result ≡ rotation_from root.now }
+// V: angular, then linear.
+#[tactic(auto, unfolding(crate::specs::Read::velocity))]
+fn next_velocity(words: &mut Words) -> Option<Twist>
+    ensures { ReadBy velocity words.old result words.new }
 {
-    let w = root[0];
-    let u = slots::vec3_at(root, 1);
-    Quaternion { w, u }
-}
-
-fn mode_numbers(floating: bool) -> u64
-    ensures { (result ≡ mode_numbers floating) × (result ≤ 4) }
-{
-    if floating { 4 } else { 0 }
-}
-
-fn mode_by(floating: bool, root: &[f64]) -> matrix::Mode
-    requires { mode_numbers floating ≤ length root.now }
-    ensures { result ≡ mode_by floating root.now }
-{
-    if floating {
-        return matrix::Mode::Floating(rotation(root));
-    }
-    matrix::Mode::Fixed
+    let mut numbers = [0.0; 6];
+    words.fill(&mut numbers)?;
+    Some(slots::twist_at(&numbers, 0))
 }
 
 // R, where the root floats.
-pub fn next_mode(s: &[u8], c: Cursor, floating: bool) -> NextMode
-    requires { c.at ≤ length s.now }
-    ensures { ReadBy (mode floating) s.now c (mode_of result) }
+#[tactic(auto, unfolding(crate::specs::Read::mode))]
+pub fn next_mode(words: &mut Words, floating: bool) -> Option<matrix::Mode>
+    ensures { ReadBy (mode floating) words.old result words.new }
 {
-    let mut root = [0.0; 4];
-    let Listed::Got(n, d) = fill_doubles(s, c, mode_numbers(floating), &mut root) else {
-        return NextMode::No;
-    };
-    NextMode::Is(mode_by(floating, &root[..n]), d)
+    if floating {
+        return Some(matrix::Mode::Floating(next_rotation(words)?));
+    }
+    Some(matrix::Mode::Fixed)
 }
 
-fn calculation_by(k: Kind, root: &[f64]) -> Calculation
-    requires { root_numbers k ≤ length root.now }
-    ensures { result ≡ calculation_by k root.now }
+// R and V, as far as the kind has them.
+#[tactic(auto, unfolding(crate::specs::Read::calculation))]
+pub fn next_calculation(words: &mut Words, k: Kind) -> Option<Calculation>
+    ensures { ReadBy (calculation k) words.old result words.new }
 {
-    match k {
-        Kind::Matrix => Calculation::Matrix(mode_by(false, root)),
-        Kind::FloatingMatrix => Calculation::Matrix(mode_by(true, root)),
-        Kind::Forward => Calculation::Forward(forward::Mode::Fixed(rotation(root))),
+    Some(match k {
+        Kind::Matrix => Calculation::Matrix(next_mode(words, false)?),
+        Kind::FloatingMatrix => Calculation::Matrix(next_mode(words, true)?),
+        Kind::Forward => Calculation::Forward(forward::Mode::Fixed(next_rotation(words)?)),
         Kind::FloatingForward => {
-            let r = rotation(root);
-            let v = slots::twist_at(root, 4);
+            let r = next_rotation(words)?;
+            let v = next_velocity(words)?;
             Calculation::Forward(forward::Mode::Floating(r, v))
+        }
+    })
+}
+
+impl Buffers {
+    pub fn new() -> Buffers
+        ensures { inputs_of result ≡ no_inputs }
+    {
+        Buffers {
+            q: Buffer::new(),
+            qd: Buffer::new(),
+            forces: Buffer::new(),
+            loaded: Buffer::new(),
+            loads: Buffer::new(),
         }
     }
 }
 
-// R and V, as far as the kind has them.
-pub fn next_calculation(s: &[u8], c: Cursor, k: Kind) -> NextCalculation
-    requires { c.at ≤ length s.now }
-    ensures { ReadBy (calculation k) s.now c (calculation_of result) }
+// QD F LINKS LOADS, behind Q.
+#[tactic(auto, unfolding(crate::specs::Read::rest))]
+fn next_rest(words: &mut Words, b: &mut Buffers) -> Option<()>
+    ensures { ReadBy (rest b.old.q) words.old (option_map (λ _. inputs_of b.new) result) words.new }
 {
-    let mut root = [0.0; 10];
-    let Listed::Got(n, d) = fill_doubles(s, c, root_numbers(k), &mut root) else {
-        return NextCalculation::No;
-    };
-    NextCalculation::Is(calculation_by(k, &root[..n]), d)
+    b.qd.read(words)?;
+    b.forces.read(words)?;
+    b.loaded.read(words)?;
+    b.loads.read(words)
 }
 
-// QD F LINKS LOADS, behind a Q of so many.
-fn next_rest(
-    s: &[u8],
-    c: Cursor,
-    q: usize,
-    qd: &mut [f64; 4096],
-    forces: &mut [f64; 4096],
-    loaded: &mut [u64; 4096],
-    loads: &mut [f64; 4096],
-) -> NextInputs
-    requires { c.at ≤ length s.now }
-    ensures { RestRead s.now c q result qd.new forces.new loaded.new loads.new }
+// Q, or Q QD F LINKS LOADS.
+#[tactic(auto, unfolding(crate::specs::Read::inputs))]
+pub fn next_inputs(words: &mut Words, c: Calculation, b: &mut Buffers) -> Option<()>
+    ensures { ReadBy (inputs c) words.old (option_map (λ _. inputs_of b.new) result) words.new }
 {
-    let Listed::Got(d, c0) = doubles(s, c, qd) else {
-        return NextInputs::No;
-    };
-    let Listed::Got(f, c1) = doubles(s, c0, forces) else {
-        return NextInputs::No;
-    };
-    let Listed::Got(l, c2) = numbers(s, c1, loaded) else {
-        return NextInputs::No;
-    };
-    let Listed::Got(w, c3) = doubles(s, c2, loads) else {
-        return NextInputs::No;
-    };
-    let sizes = Sizes {
-        q,
-        qd: d,
-        forces: f,
-        loaded: l,
-        loads: w,
-    };
-    NextInputs::Is(sizes, c3)
-}
-
-pub fn next_inputs(
-    s: &[u8],
-    c: Cursor,
-    k: Calculation,
-    q: &mut [f64; 4096],
-    qd: &mut [f64; 4096],
-    forces: &mut [f64; 4096],
-    loaded: &mut [u64; 4096],
-    loads: &mut [f64; 4096],
-) -> NextInputs
-    requires { c.at ≤ length s.now }
-    ensures { InputsBy (inputs k) s.now c q.new qd.new forces.new loaded.new loads.new result }
-{
-    let Listed::Got(n, c0) = doubles(s, c, q) else {
-        return NextInputs::No;
-    };
-    match k {
+    b.q.read(words)?;
+    match c {
         Calculation::Matrix(_) => {
-            let sizes = Sizes {
-                q: n,
-                qd: 0,
-                forces: 0,
-                loaded: 0,
-                loads: 0,
-            };
-            NextInputs::Is(sizes, c0)
+            b.qd.clear();
+            b.forces.clear();
+            b.loaded.clear();
+            b.loads.clear();
+            Some(())
         }
-        Calculation::Forward(_) => next_rest(s, c0, n, qd, forces, loaded, loads),
+        Calculation::Forward(_) => next_rest(words, b),
     }
 }
 
 // WS OUT PORTIONS, and no word behind them.
-pub fn last_lent(s: &[u8], c: Cursor, budgets: &mut [u64; 4096]) -> LastLent
-    requires { c.at ≤ length s.now }
-    ensures { (lengths_read result budgets.new ≡ lengths (words_at s.now c)) × LengthsIn result budgets.new }
+#[tactic(auto, unfolding(crate::specs::Read::lengths, words::specs::Read::end))]
+pub fn last_lent(mut words: Words, budgets: &mut Buffer<u64>) -> Option<Lent>
+    ensures read { ReadBy lengths words.entry (option_map (λ l. lengths_by l budgets.new) result) [] }
+    ensures few { IfSome result (λ l. (l.ws ≤ 4096) × (l.out ≤ 2048)) }
 {
-    let Next::Is(ws, c0) = next_number(s, c) else {
-        return LastLent::No;
-    };
-    let Next::Is(out, c1) = next_number(s, c0) else {
-        return LastLent::No;
-    };
-    let Listed::Got(n, c2) = numbers(s, c1, budgets) else {
-        return LastLent::No;
-    };
-    if !at_end(s, c2) {
-        return LastLent::No;
+    let ws = words.next_number()?;
+    let out = words.next_number()?;
+    budgets.read(&mut words)?;
+    if !words.at_end() || 4096 < ws || 2048 < out {
+        return None;
     }
-    if 4096 < ws {
-        return LastLent::No;
-    }
-    if 2048 < out {
-        return LastLent::No;
-    }
-    LastLent::Is(Lent {
+    Some(Lent {
         ws: ws as usize,
         out: out as usize,
-        budgets: n,
     })
 }

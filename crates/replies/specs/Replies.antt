@@ -1,9 +1,8 @@
 -- What every request shares. Assumes nothing.
-use Rattle.std.specs.Prelude.{ℕ, List, [], ◌∷◌, ◌++◌}
-use Rattle.std.proofs.Math.Option.{Option, none, some}
-use Rattle.words.specs.Write.{bytes, row, hex_text, decimal_text}
-use Rattle.refusals.specs.declared.Place.{Place}
-use Rattle.refusals.specs.declared.Place.TheVariants.{At, Nothing}
+use Rattle.std.specs.Prelude.{ℕ, List, [], ◌∷◌, ◌++◌, codes, Option, Some, None}
+use Rattle.std.specs.List.{concat}
+use Rattle.words.specs.Write.{hex_text, decimal_text}
+use Rattle.refusals.specs.declared.Refusal.{Refusal}
 use Rattle.arm.specs.declared.model.Model.{Model}
 
 -- no answer is longer
@@ -12,17 +11,17 @@ room = 131072
 
 -- a line that is no request
 abbrev pub error_text : List ℕ
-error_text = bytes "error\n"
+error_text = codes "error\n"
 
 -- what a request answers, of what its reader made of the words
 abbrev pub text_of : Option (List ℕ × List (List ℕ)) → List ℕ
-text_of none = error_text
-text_of (some p) = p.0
+text_of None = error_text
+text_of (Some p) = p.0
 
 -- and with the model that is current from then on: an error changes nothing
 abbrev pub reply_of : Model → Option ((List ℕ × Model) × List (List ℕ)) → List ℕ × Model
-reply_of m none = (error_text, m)
-reply_of m (some p) = p.0
+reply_of m None = (error_text, m)
+reply_of m (Some p) = p.0
 
 -- behind what stands there
 abbrev pub behind : List ℕ → List ℕ × Model → List ℕ × Model
@@ -30,9 +29,9 @@ behind o a = (o ++ a.0, a.1)
 
 -- ---- a refusal: its number is in decimal
 
-abbrev pub place_text : Place → List ℕ
-place_text (At i) = hex_text i
-place_text Nothing = bytes "-"
+abbrev pub place_text : Option ℕ → List ℕ
+place_text (Some i) = hex_text i
+place_text None = codes "-"
 
-abbrev pub refused_text : ℕ → Place → List ℕ
-refused_text number p = row (bytes "refused " ∷ decimal_text number ∷ bytes " " ∷ place_text p ∷ [])
+abbrev pub refused_text : Refusal → List ℕ
+refused_text r = concat (codes "refused " ∷ decimal_text r.number ∷ codes " " ∷ place_text r.place ∷ [])

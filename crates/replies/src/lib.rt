@@ -5,8 +5,8 @@ ghost use Rattle.std.specs.Prelude.{◌≡◌, ◌++◌, ◌+◌, ◌≤◌, len
 ghost use Rattle.replies.specs.Replies.{room, error_text, place_text, refused_text};
 
 use arm::model::Model;
-use refusals::Place;
-use words::write::{put, put_decimal, put_number};
+use refusals::Refusal;
+use words::write::{Word, put, put_decimal};
 
 // `room` in the contracts.
 pub const ROOM: usize = 131072;
@@ -25,22 +25,22 @@ pub fn error(out: &mut [u8], at: usize) -> usize
     put(out, at, b"error\n")
 }
 
-fn put_place(out: &mut [u8], at: usize, p: Place) -> usize
+fn put_place(out: &mut [u8], at: usize, place: Option<usize>) -> usize
     requires { at + 16 ≤ length out.old }
-    ensures { (at ≤ result) × (result ≤ at + 16) × (take result out.new ≡ take at out.old ++ place_text p) }
+    ensures { (at ≤ result) × (result ≤ at + 16) × (take result out.new ≡ take at out.old ++ place_text place) }
 {
-    match p {
-        Place::At(i) => put_number(out, at, i as u64),
-        Place::Nothing => put(out, at, b"-"),
+    match place {
+        Some(i) => (i as u64).put(out, at),
+        None => put(out, at, b"-"),
     }
 }
 
-pub fn put_refused(out: &mut [u8], at: usize, number: u8, p: Place) -> usize
+pub fn put_refused(out: &mut [u8], at: usize, r: Refusal) -> usize
     requires { at + 45 ≤ length out.old }
-    ensures { (at ≤ result) × (result ≤ at + 45) × (take result out.new ≡ take at out.old ++ refused_text number p) }
+    ensures { (at ≤ result) × (result ≤ at + 45) × (take result out.new ≡ take at out.old ++ refused_text r) }
 {
     let a = put(out, at, b"refused ");
-    let b = put_decimal(out, a, number as u64);
+    let b = put_decimal(out, a, u64::from(r.number));
     let c = put(out, b, b" ");
-    put_place(out, c, p)
+    put_place(out, c, r.place)
 }

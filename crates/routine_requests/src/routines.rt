@@ -1,83 +1,75 @@
 // The requests that reach the number routines: `root X` and `half_turn Q`.
-ghost use Rattle.std.specs.Prelude.{◌≡◌, ◌++◌, ◌+◌, ◌≤◌, length, take};
-ghost use Rattle.words.specs.Read.{words_at};
+ghost use Rattle.std.specs.Prelude.{◌≡◌, ◌++◌, ◌+◌, ◌≤◌, [], length, take};
+ghost use Rattle.words.specs.Read.{ReadBy};
 ghost use Rattle.replies.specs.Replies.{room, text_of};
-ghost use Rattle.routine_requests.specs.Routines.{only_double, only_read, root_line, root_request, half_turn_line, half_turn_request};
+ghost use Rattle.routine_requests.specs.Routines.{only_double, root_line, root_request, half_turn_line, half_turn_request};
 
-use half_turn::HalfTurn;
+use half_turn::SinCos;
 use replies::error;
-use square_root::Root;
-use words::read::{Cursor, Next, at_end, double_of, next_number};
-use words::write::{put, put_double};
+use std::num::f64_from_bits_with_nan;
+use words::read::Words;
+use words::write::{Word, put};
 
 // One double, and no word behind it.
-#[derive(Clone, Copy)]
-pub enum Only {
-    Is(f64),
-    No,
-}
-
-fn only_double(s: &[u8], c: Cursor) -> Only
-    requires { c.at ≤ length s.now }
-    ensures { only_read result ≡ only_double (words_at s.now c) }
+#[tactic(auto, unfolding(crate::specs::Routines::only_double, words::specs::Read::end))]
+fn only_double(mut words: Words) -> Option<f64>
+    ensures { ReadBy only_double words.entry result [] }
 {
-    match next_number(s, c) {
-        Next::Is(v, d) => {
-            if at_end(s, d) {
-                return Only::Is(double_of(v));
-            }
-            Only::No
-        }
-        Next::No => Only::No,
+    let pattern = words.next_number()?;
+    if !words.at_end() {
+        return None;
     }
+    Some(f64_from_bits_with_nan(pattern))
 }
 
-fn put_root(out: &mut [u8], at: usize, r: Root) -> usize
+fn put_root(out: &mut [u8], at: usize, root: Option<f64>) -> usize
     requires { at + room ≤ length out.old }
-    ensures { (at ≤ result) × (result ≤ at + room) × (take result out.new ≡ take at out.old ++ root_line r) }
+    ensures { (at ≤ result) × (result ≤ at + room) × (take result out.new ≡ take at out.old ++ root_line root) }
 {
-    match r {
-        Root::Is(y) => {
+    match root {
+        Some(y) => {
             let a = put(out, at, b"root ");
-            let b = put_double(out, a, y);
+            let b = y.put(out, a);
             put(out, b, b"\n")
         }
-        Root::No => put(out, at, b"no root\n"),
+        None => put(out, at, b"no root\n"),
     }
 }
 
-pub fn root(s: &[u8], c: Cursor, out: &mut [u8], at: usize) -> usize
-    requires { (c.at ≤ length s.now) × (at + room ≤ length out.old) }
-    ensures { (at ≤ result) × (result ≤ at + room) × (take result out.new ≡ take at out.old ++ text_of (root_request (words_at s.now c))) }
-{
-    match only_double(s, c) {
-        Only::Is(x) => put_root(out, at, square_root::sqrt(x)),
-        Only::No => error(out, at),
-    }
-}
-
-fn put_half_turn(out: &mut [u8], at: usize, r: HalfTurn) -> usize
+#[tactic(auto, unfolding(crate::specs::Routines::root_request))]
+pub fn root(words: Words, out: &mut [u8], at: usize) -> usize
     requires { at + room ≤ length out.old }
-    ensures { (at ≤ result) × (result ≤ at + room) × (take result out.new ≡ take at out.old ++ half_turn_line r) }
+    ensures { (at ≤ result) × (result ≤ at + room) × (take result out.new ≡ take at out.old ++ text_of (root_request words.entry)) }
 {
-    match r {
-        HalfTurn::Of(v) => {
+    match only_double(words) {
+        Some(x) => put_root(out, at, square_root::sqrt(x)),
+        None => error(out, at),
+    }
+}
+
+fn put_half_turn(out: &mut [u8], at: usize, turned: Option<SinCos>) -> usize
+    requires { at + room ≤ length out.old }
+    ensures { (at ≤ result) × (result ≤ at + room) × (take result out.new ≡ take at out.old ++ half_turn_line turned) }
+{
+    match turned {
+        Some(v) => {
             let a = put(out, at, b"half_turn ");
-            let b = put_double(out, a, v.sin);
+            let b = v.sin.put(out, a);
             let c = put(out, b, b" ");
-            let d = put_double(out, c, v.cos);
+            let d = v.cos.put(out, c);
             put(out, d, b"\n")
         }
-        HalfTurn::OutOfRange => put(out, at, b"out of range\n"),
+        None => put(out, at, b"out of range\n"),
     }
 }
 
-pub fn half_turn(s: &[u8], c: Cursor, out: &mut [u8], at: usize) -> usize
-    requires { (c.at ≤ length s.now) × (at + room ≤ length out.old) }
-    ensures { (at ≤ result) × (result ≤ at + room) × (take result out.new ≡ take at out.old ++ text_of (half_turn_request (words_at s.now c))) }
+#[tactic(auto, unfolding(crate::specs::Routines::half_turn_request))]
+pub fn half_turn(words: Words, out: &mut [u8], at: usize) -> usize
+    requires { at + room ≤ length out.old }
+    ensures { (at ≤ result) × (result ≤ at + room) × (take result out.new ≡ take at out.old ++ text_of (half_turn_request words.entry)) }
 {
-    match only_double(s, c) {
-        Only::Is(q) => put_half_turn(out, at, half_turn::half_turn(q)),
-        Only::No => error(out, at),
+    match only_double(words) {
+        Some(q) => put_half_turn(out, at, half_turn::half_turn(q)),
+        None => error(out, at),
     }
 }

@@ -3,3 +3,4 @@ pub mod Blocks
 pub mod Sets
 pub mod Puts
 pub mod Alike
+pub mod Slices

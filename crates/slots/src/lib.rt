@@ -26,8 +26,7 @@ pub fn finite_part(s: &[f64], at: usize, count: usize) -> bool
     requires { at + count ≤ length s.now }
     ensures { result ≡ all_finite (take count (drop at s.now)) }
 {
-    let end = at + count;
-    double::all_finite(&s[at..end])
+    double::all_finite(&s[at..at + count])
 }
 
 pub fn put_number(s: &mut [f64], at: usize, x: f64)
@@ -48,6 +47,7 @@ pub fn vec3_at(s: &[f64], at: usize) -> Vec3
     }
 }
 
+#[tactic(auto, unfolding(crate::specs::Slots::put_vec3))]
 pub fn put_vec3(s: &mut [f64], at: usize, v: Vec3)
     requires { at + 3 ≤ length s.old }
     ensures { s.new ≡ put_vec3 s.old at v }
@@ -57,6 +57,7 @@ pub fn put_vec3(s: &mut [f64], at: usize, v: Vec3)
     s[at + 2] = v.z;
 }
 
+#[tactic(auto, unfolding(crate::specs::Slots::mat3_at))]
 pub fn mat3_at(s: &[f64], at: usize) -> Mat3
     requires { at + 9 ≤ length s.now }
     ensures { result ≡ mat3_at s.now at }
@@ -67,6 +68,7 @@ pub fn mat3_at(s: &[f64], at: usize) -> Mat3
     Mat3 { r0, r1, r2 }
 }
 
+#[tactic(auto, unfolding(crate::specs::Slots::put_mat3))]
 pub fn put_mat3(s: &mut [f64], at: usize, m: Mat3)
     requires { at + 9 ≤ length s.old }
     ensures { s.new ≡ put_mat3 s.old at m }
@@ -83,26 +85,18 @@ pub fn mat6_at(s: &[f64], at: usize) -> [f64; 36]
     requires { at + 36 ≤ length s.now }
     ensures { result ≡ mat6_at s.now at }
 {
-    let mut m = [0.0; 36];
-    let mut t: usize = 0;
-    while t < 36 {
-        m[t] = s[at + t];
-        t += 1;
-    }
-    m
+    std::array::from_fn(|t| s[at + t])
 }
 
+#[tactic(auto, using(crate::proofs::Slices::put_is))]
 pub fn put_mat6(s: &mut [f64], at: usize, m: &[f64; 36])
     requires { at + 36 ≤ length s.old }
     ensures { s.new ≡ put_mat6 s.old at m.now }
 {
-    let mut t: usize = 0;
-    while t < 36 {
-        put_number(s, at + t, m[t]);
-        t += 1;
-    }
+    s[at..at + 36].copy_from_slice(m);
 }
 
+#[tactic(auto, unfolding(crate::specs::Slots::twist_at))]
 pub fn twist_at(s: &[f64], at: usize) -> Twist
     requires { at + 6 ≤ length s.now }
     ensures { result ≡ twist_at s.now at }
@@ -112,6 +106,7 @@ pub fn twist_at(s: &[f64], at: usize) -> Twist
     Twist { angular, linear }
 }
 
+#[tactic(auto, unfolding(crate::specs::Slots::put_twist))]
 pub fn put_twist(s: &mut [f64], at: usize, v: Twist)
     requires { at + 6 ≤ length s.old }
     ensures { s.new ≡ put_twist s.old at v }
@@ -122,6 +117,7 @@ pub fn put_twist(s: &mut [f64], at: usize, v: Twist)
     put_vec3(s, at + 3, linear);
 }
 
+#[tactic(auto, unfolding(crate::specs::Slots::wrench_at))]
 pub fn wrench_at(s: &[f64], at: usize) -> Wrench
     requires { at + 6 ≤ length s.now }
     ensures { result ≡ wrench_at s.now at }
@@ -131,6 +127,7 @@ pub fn wrench_at(s: &[f64], at: usize) -> Wrench
     Wrench { torque, force }
 }
 
+#[tactic(auto, unfolding(crate::specs::Slots::put_wrench))]
 pub fn put_wrench(s: &mut [f64], at: usize, w: Wrench)
     requires { at + 6 ≤ length s.old }
     ensures { s.new ≡ put_wrench s.old at w }
@@ -141,6 +138,7 @@ pub fn put_wrench(s: &mut [f64], at: usize, w: Wrench)
     put_vec3(s, at + 3, force);
 }
 
+#[tactic(auto, unfolding(crate::specs::Slots::frame_at))]
 pub fn frame_at(s: &[f64], at: usize) -> Frame
     requires { at + 7 ≤ length s.now }
     ensures { result ≡ frame_at s.now at }
@@ -154,6 +152,7 @@ pub fn frame_at(s: &[f64], at: usize) -> Frame
     }
 }
 
+#[tactic(auto, unfolding(crate::specs::Slots::put_frame))]
 pub fn put_frame(s: &mut [f64], at: usize, f: Frame)
     requires { at + 7 ≤ length s.old }
     ensures { s.new ≡ put_frame s.old at f }
@@ -168,36 +167,27 @@ pub fn put_frame(s: &mut [f64], at: usize, f: Frame)
 }
 
 // `count` numbers from `at` on become +0.0.
+#[tactic(auto, using(crate::proofs::Slices::zero_is))]
 pub fn zero_part(s: &mut [f64], at: usize, count: usize)
     requires { at + count ≤ length s.old }
     ensures { s.new ≡ zero_to s.old at count }
 {
-    let mut i: usize = 0;
-    while i < count {
-        put_number(s, at + i, 0.0);
-        i += 1;
-    }
+    s[at..at + count].fill(0.0);
 }
 
 // Every number becomes +0.0.
+#[tactic(auto, using(crate::proofs::Slices::cleared_is))]
 pub fn clear(s: &mut [f64])
     ensures { s.new ≡ cleared s.old }
 {
-    let mut i: usize = 0;
-    while i < s.len() {
-        s[i] = 0.0;
-        i += 1;
-    }
+    s.fill(0.0);
 }
 
 // The numbers of s from `at` on fill d.
+#[tactic(auto, using(crate::proofs::Slices::part_is))]
 pub fn copy_from(d: &mut [f64], s: &[f64], at: usize)
     requires { at + length d.old ≤ length s.now }
     ensures { d.new ≡ part_of s.now at (length d.old) }
 {
-    let mut i: usize = 0;
-    'numbers: while i < d.len() {
-        d[i] = s[at + i];
-        i += 1;
-    }
+    d.copy_from_slice(&s[at..at + d.len()]);
 }

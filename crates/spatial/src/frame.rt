@@ -13,6 +13,7 @@ pub struct Frame {
 }
 
 impl Frame {
+    #[tactic(auto, unfolding(crate::specs::Frame::product_of))]
     pub fn times(self, b: Frame) -> Frame
         ensures { result ≡ product_of self b }
     {
@@ -25,6 +26,7 @@ impl Frame {
     }
 
     // Turned about an axis, by the sine and cosine of half the angle.
+    #[tactic(auto, unfolding(crate::specs::Frame::turn_of))]
     pub fn turn(self, axis: Vec3, v: SinCos) -> Frame
         ensures { result ≡ turn_of self axis v }
     {
@@ -42,6 +44,7 @@ impl Frame {
     }
 
     // Moved along an axis by q.
+    #[tactic(auto, unfolding(crate::specs::Frame::slide_of))]
     pub fn slide(self, axis: Vec3, q: f64) -> Frame
         ensures { result ≡ slide_of self axis q }
     {

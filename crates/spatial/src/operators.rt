@@ -6,6 +6,7 @@ use crate::frame::Frame;
 use crate::twist::Twist;
 use crate::wrench::Wrench;
 
+#[tactic(auto, unfolding(crate::specs::Operators::wrench_to_parent))]
 pub fn wrench_to_parent(f: Frame, w: Wrench) -> Wrench
     ensures { result ≡ wrench_to_parent f w }
 {
@@ -14,6 +15,7 @@ pub fn wrench_to_parent(f: Frame, w: Wrench) -> Wrench
     Wrench { torque, force }
 }
 
+#[tactic(auto, unfolding(crate::specs::Operators::motion_to_child))]
 pub fn motion_to_child(f: Frame, v: Twist) -> Twist
     ensures { result ≡ motion_to_child f v }
 {
@@ -23,6 +25,7 @@ pub fn motion_to_child(f: Frame, v: Twist) -> Twist
     Twist { angular, linear }
 }
 
+#[tactic(auto, unfolding(crate::specs::Operators::motion_cross))]
 pub fn motion_cross(a: Twist, b: Twist) -> Twist
     ensures { result ≡ motion_cross a b }
 {
@@ -31,6 +34,7 @@ pub fn motion_cross(a: Twist, b: Twist) -> Twist
     Twist { angular, linear }
 }
 
+#[tactic(auto, unfolding(crate::specs::Operators::force_cross))]
 pub fn force_cross(v: Twist, w: Wrench) -> Wrench
     ensures { result ≡ force_cross v w }
 {
@@ -39,6 +43,7 @@ pub fn force_cross(v: Twist, w: Wrench) -> Wrench
     Wrench { torque, force }
 }
 
+#[tactic(auto, unfolding(crate::specs::Operators::motion_force_dot))]
 pub fn motion_force_dot(v: Twist, w: Wrench) -> f64
     ensures { result ≡ motion_force_dot v w }
 {

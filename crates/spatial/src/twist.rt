@@ -13,6 +13,7 @@ pub struct Twist {
 }
 
 impl Twist {
+    #[tactic(auto, unfolding(crate::specs::Twist::zeros_of))]
     pub fn zeros() -> Twist
         ensures { result ≡ zeros_of }
     {
@@ -27,6 +28,7 @@ impl Twist {
         }
     }
 
+    #[tactic(auto, unfolding(crate::specs::Twist::plus_of))]
     pub fn plus(self, b: Twist) -> Twist
         ensures { result ≡ plus_of self b }
     {
@@ -35,6 +37,7 @@ impl Twist {
         Twist { angular, linear }
     }
 
+    #[tactic(auto, unfolding(crate::specs::Twist::scale_of))]
     pub fn scale(self, k: f64) -> Twist
         ensures { result ≡ scale_of self k }
     {
@@ -43,6 +46,7 @@ impl Twist {
         Twist { angular, linear }
     }
 
+    #[tactic(auto, unfolding(crate::specs::Twist::rotated_of))]
     pub fn rotated(self, q: Quaternion) -> Twist
         ensures { result ≡ rotated_of self q }
     {

@@ -13,6 +13,7 @@ pub struct Wrench {
 }
 
 impl Wrench {
+    #[tactic(auto, unfolding(crate::specs::Wrench::zeros_of))]
     pub fn zeros() -> Wrench
         ensures { result ≡ zeros_of }
     {
@@ -27,6 +28,7 @@ impl Wrench {
         }
     }
 
+    #[tactic(auto, unfolding(crate::specs::Wrench::plus_of))]
     pub fn plus(self, b: Wrench) -> Wrench
         ensures { result ≡ plus_of self b }
     {
@@ -35,6 +37,7 @@ impl Wrench {
         Wrench { torque, force }
     }
 
+    #[tactic(auto, unfolding(crate::specs::Wrench::minus_of))]
     pub fn minus(self, b: Wrench) -> Wrench
         ensures { result ≡ minus_of self b }
     {
@@ -43,6 +46,7 @@ impl Wrench {
         Wrench { torque, force }
     }
 
+    #[tactic(auto, unfolding(crate::specs::Wrench::scale_of))]
     pub fn scale(self, k: f64) -> Wrench
         ensures { result ≡ scale_of self k }
     {
@@ -51,6 +55,7 @@ impl Wrench {
         Wrench { torque, force }
     }
 
+    #[tactic(auto, unfolding(crate::specs::Wrench::rotated_of))]
     pub fn rotated(self, q: Quaternion) -> Wrench
         ensures { result ≡ rotated_of self q }
     {

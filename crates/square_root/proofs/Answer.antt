@@ -9,13 +9,11 @@ use lib.IntN.{ℤ, pos}
 use lib.Dec.{T, ltb, eqb, ltb→lt, lt→ltb, nltb→le, eqb→eq, lit<, not_T}
 use lib.Pow.{pow-add, pow_pos}
 use lib.Count.{count_leading_zeros}
-use lib.Ieee.{Float, nan, inf, fin, binary64, up, down, fits, is_nan, nan_bits, to_bits, of_bits, size, ne, eq, lt}
+use lib.Ieee.{Float, nan, inf, fin, binary64, up, down, fits, is_nan, nan_bits, to_bits, of_bits, size, eq, lt}
 use lib.Ieee.Fits.{and_i, and_l, and_r, up_pos, eq→eqb}
-use lib.Ieee.Compare.{differs_from_itself, nan_differs}
 use lib.Ieee.Bits.{of_bits-to_bits, of_bits-fits, is_false, is_true}
 use lib.Ieee.Positive.{positive, positive_of_value}
-use Rattle.square_root.specs.declared.Root.{Root}
-use Rattle.square_root.specs.declared.Root.TheVariants.{Is, No}
+use Rattle.std.specs.Prelude.{Option, Some, None}
 use Rattle.square_root.specs.SquareRoot.{mag, Nearest, RootIs, isqrt, pattern_of, root_of, sig_of, exp_of}
 use Rattle.square_root.proofs.Whole.{lead, eleven, shift, half, sig-lt, sig-pos, shifted, N-lo, N-hi, total, root-small, root-le, isqrt-is, four_is, pattern-at}
 use Rattle.square_root.proofs.Values.{value, mag-bits, minus, bits-le}
@@ -217,7 +215,7 @@ written X P =
 
 -- ---- the answer
 
-pub root-above : (x : Float) → T (positive x) → root_of x ≡ Is (of_bits binary64 (pattern_of (mag x * 2 ^ 1074)))
+pub root-above : (x : Float) → T (positive x) → root_of x ≡ Some (of_bits binary64 (pattern_of (mag x * 2 ^ 1074)))
 unfolding root_of
 root-above nan h = absurd h
 root-above (inf s) h = absurd h
@@ -239,19 +237,21 @@ root_is (fin false (suc m) e) f =
 
 -- ---- the code's tests
 
-pub nan-case : (x : Float) → ne x x ≡ true → root_of x ≡ No
-unfolding root_of
-nan-case x h = ap root_of (differs_from_itself x (subst T (sym h) tt))
+pub nan-case : (x : Float) → is_nan x ≡ true → root_of x ≡ None
+unfolding is_nan root_of
+nan-case nan h = refl
+nan-case (inf s) h = cc
+nan-case (fin s m e) h = cc
 
 not-a-zero : (m : ℕ) (e : ℤ) (y : ℕ) → y ≡ 0 → T (eqb (suc m * up e * 1) y) → ⊥
 not-a-zero m e y z t =
     lt_irrefl 0 (subst (λ (n : ℕ). 0 < n) (sym (mul-one (suc m * up e)) ∙ eqb→eq (suc m * up e * 1) y t ∙ z) (mul-pos (zero-lt-suc m) (up_pos e)))
 
-pub zero-case : (x : Float) → eq x (of_bits binary64 0) ≡ true → root_of x ≡ Is x
+pub zero-case : (x : Float) → eq x (of_bits binary64 0) ≡ true → root_of x ≡ Some x
 unfolding eq root_of
 zero-case x h = go x (subst (λ (z : Float). T (eq x z)) zero_is (subst T (sym h) tt))
   where
-    go : (x : Float) → T (eq x (fin false 0 (pos 0))) → root_of x ≡ Is x
+    go : (x : Float) → T (eq x (fin false 0 (pos 0))) → root_of x ≡ Some x
     go nan t = absurd t
     go (inf s) t = absurd t
     go (fin s zero e) t = refl
@@ -260,11 +260,11 @@ zero-case x h = go x (subst (λ (z : Float). T (eq x z)) zero_is (subst T (sym h
 none_below : (a b : ℕ) → b ≡ 0 → T (ltb a b) → ⊥
 none_below a b z t = let l = ltb→lt a b t in omega arith
 
-pub minus-case : (x : Float) → lt x (of_bits binary64 0) ≡ true → root_of x ≡ No
+pub minus-case : (x : Float) → lt x (of_bits binary64 0) ≡ true → root_of x ≡ None
 unfolding lt root_of
 minus-case x h = go x (subst (λ (z : Float). T (lt x z)) zero_is (subst T (sym h) tt))
   where
-    go : (x : Float) → T (lt x (fin false 0 (pos 0))) → root_of x ≡ No
+    go : (x : Float) → T (lt x (fin false 0 (pos 0))) → root_of x ≡ None
     go nan t = absurd t
     go (inf true) t = refl
     go (inf false) t = absurd t
@@ -273,8 +273,8 @@ minus-case x h = go x (subst (λ (z : Float). T (lt x z)) zero_is (subst T (sym 
     go (fin false m e) t = absurd (none_below (m * up e * 1) (0 * 1 * down e) (zero-mul (down e)) t)
 
 -- what is left is the infinity, or above zero
-pub left_over : (x : Float) → ne x x ≡ false → eq x (of_bits binary64 0) ≡ false → lt x (of_bits binary64 0) ≡ false → (x ≡ inf false) ⊎ T (positive x)
-unfolding eq lt
+pub left_over : (x : Float) → is_nan x ≡ false → eq x (of_bits binary64 0) ≡ false → lt x (of_bits binary64 0) ≡ false → (x ≡ inf false) ⊎ T (positive x)
+unfolding is_nan eq lt
 left_over x a b c = go x a (subst (λ (z : Float). eq x z ≡ false) zero_is b) (subst (λ (z : Float). lt x z ≡ false) zero_is c)
   where
     zero-eq : (s : Bool) (e : ℤ) → eq (fin s 0 e) (fin false 0 (pos 0)) ≡ true
@@ -298,22 +298,13 @@ left_over x a b c = go x a (subst (λ (z : Float). eq x z ≡ false) zero_is b) 
     minus-inf : lt (inf true) (fin false 0 (pos 0)) ≡ true
     minus-inf = refl
 
-    go : (x : Float) → ne x x ≡ false → eq x (fin false 0 (pos 0)) ≡ false → lt x (fin false 0 (pos 0)) ≡ false → (x ≡ inf false) ⊎ T (positive x)
-    go nan a b c = absurd (true≢false (sym nan_differs ∙ a))
+    go : (x : Float) → is_nan x ≡ false → eq x (fin false 0 (pos 0)) ≡ false → lt x (fin false 0 (pos 0)) ≡ false → (x ≡ inf false) ⊎ T (positive x)
+    go nan a b c = absurd (true≢false a)
     go (inf true) a b c = absurd (true≢false (sym minus-inf ∙ c))
     go (inf false) a b c = inl refl
     go (fin s zero e) a b c = absurd (true≢false (sym (zero-eq s e) ∙ b))
     go (fin true (suc m) e) a b c = absurd (true≢false (sym (below-zero m e) ∙ c))
     go (fin false (suc m) e) a b c = inr (lt→ltb 0 (suc m) (zero-lt-suc m))
-
-pub known-no-nan : (x : Float) → ne x x ≡ false → T (not (is_nan x))
-unfolding is_nan
-known-no-nan x h = go x h
-  where
-    go : (x : Float) → ne x x ≡ false → T (not (is_nan x))
-    go nan h = absurd (true≢false (sym nan_differs ∙ h))
-    go (inf s) h = tt
-    go (fin s m e) h = tt
 
 -- ---- there is one answer
 
@@ -345,7 +336,7 @@ one-nearest x r s a b = same-mag r s a.held b.held (level (ltb (mag r) (mag s)) 
     level false false f g h k = le_antisymm (k tt) (g tt)
 
 -- any answer that `RootIs` allows is `root_of`'s
-pub one_answer : (x : Float) (a : Root) → T (fits binary64 x) → RootIs x a → a ≡ root_of x
+pub one_answer : (x : Float) (a : Option Float) → T (fits binary64 x) → RootIs x a → a ≡ root_of x
 unfolding RootIs root_of
 one_answer nan a f h = h
 one_answer (inf true) a f h = h
@@ -355,4 +346,4 @@ one_answer (fin true (suc m) e) a f h = h
 one_answer (fin false (suc m) e) a f h =
     let x = fin false (suc m) e in
     let k = root_is x f in
-    h.1 ∙ ap Is (one-nearest x h.0 k.0 h.2 k.2) ∙ sym k.1
+    h.1 ∙ ap Some (one-nearest x h.0 k.0 h.2 k.2) ∙ sym k.1

@@ -14,17 +14,13 @@ pub record Taken (w l r m i : ℕ) : Type 0 where
   pub value : (r * r + m) * 18446744073709551616 + l ≡ w * 4 ^ i
   pub rest : m ≤ 2 * r
   pub short : r < 2 ^ i
-  pub fits : l < 18446744073709551616
-  pub within : i ≤ 54
 
-pub turn : (w l r m i s u : ℕ) → Taken w l r m i → i < 54 → NextPart r m (l / 4611686018427387904) s u → Taken w (l % 4611686018427387904 * 4) s u (i + 1)
-turn w l r m i s u t n p =
+pub turn : (w l r m i s u : ℕ) → Taken w l r m i → NextPart r m (l / 4611686018427387904) s u → Taken w (l % 4611686018427387904 * 4) s u (i + 1)
+turn w l r m i s u t p =
     record {
       value = value-is w l (r * r + m) (s * s + u) (4 ^ i) t.value p.value ∙ ap (λ (x : ℕ). w * x) (sym (power 4 i));
       rest = p.rest;
       short = subst (λ (x : ℕ). s < x) (sym (power 2 i)) (short-is r s (2 ^ i) t.short p.short);
-      fits = fits-is l;
-      within = within-is i n;
     }
   where
     value-is : (w l x y e : ℕ) → x * 18446744073709551616 + l ≡ w * e → y ≡ 4 * x + l / 4611686018427387904
@@ -34,12 +30,6 @@ turn w l r m i s u t n p =
     short-is : (r s p : ℕ) → r < p → s ≤ 2 * r + 1 → s < 2 * p
     short-is r s p h k = omega arith
 
-    fits-is : (l : ℕ) → l % 4611686018427387904 * 4 < 18446744073709551616
-    fits-is l = omega arith
-
-    within-is : (i : ℕ) → i < 54 → i + 1 ≤ 54
-    within-is i h = omega arith
-
 -- the end: all digits of w are taken
 last : (w r m l : ℕ) → (r * r + m) * 18446744073709551616 + l ≡ w * 324518553658426726783156020576256 → l < 18446744073709551616 → r * r + m ≡ w * 17592186044416
 last w r m l e h = omega arith
@@ -47,8 +37,5 @@ last w r m l e h = omega arith
 above : (n r m : ℕ) → r * r + m ≡ n → m ≤ 2 * r → (r * r ≤ n) × (n < (r + 1) * (r + 1))
 above n r m e h = omega arith
 
-pub done : (w l r m i : ℕ) → Taken w l r m i → 54 ≤ i → (r * r ≤ w * 17592186044416) × (w * 17592186044416 < (r + 1) * (r + 1))
-done w l r m i t n =
-    let k = t.within in
-    let e : i ≡ 54 = omega arith in
-    above (w * 17592186044416) r m (last w r m l (t.value ∙ ap (λ (j : ℕ). w * 4 ^ j) e) t.fits) t.rest
+pub done : (w l r m : ℕ) → l < 18446744073709551616 → Taken w l r m 54 → (r * r ≤ w * 17592186044416) × (w * 17592186044416 < (r + 1) * (r + 1))
+done w l r m h t = above (w * 17592186044416) r m (last w r m l t.value h) t.rest

@@ -1,10 +1,8 @@
 -- The square root of a double, correctly rounded (document 01, "Number rules"). Definitions only.
-use Rattle.std.specs.Prelude.{◌≡◌, true, false, cond, ◌&&◌, ℕ, zero, suc, ◌+◌, ◌-◌, ◌*◌, ◌/◌, ◌%◌, ◌^◌, ◌<◌, ◌≤◌, T, leb, ltb, Float}
+use Rattle.std.specs.Prelude.{◌≡◌, true, false, cond, ◌&&◌, ℕ, zero, suc, ◌+◌, ◌-◌, ◌*◌, ◌/◌, ◌%◌, ◌^◌, ◌<◌, ◌≤◌, T, leb, ltb, Float, Option, Some, None}
 use Rattle.std.specs.Float.{nan, inf, fin, binary64}
 use Rattle.std.specs.Float.Ieee.{up, down, size, fits, of_bits}
 use Rattle.std.specs.Float.Ieee.Positive.{positive}
-use Rattle.square_root.specs.declared.Root.{Root}
-use Rattle.square_root.specs.declared.Root.TheVariants.{Is, No}
 
 -- ---- what the answer has to be
 
@@ -23,13 +21,13 @@ pub record Nearest (x r : Float) : Type 0 where
   pub above : (y : Float) → T (fits binary64 y) → mag r < mag y → 4 * (mag x * 2 ^ 1074) < (mag y + mag r) * (mag y + mag r)
 
 -- The answer for each double: zeros and +infinity are their own roots, NaN and what is below zero have none.
-unfoldable pub RootIs : Float → Root → Type 0
-RootIs nan a = a ≡ No
-RootIs (inf true) a = a ≡ No
-RootIs (inf false) a = a ≡ Is (inf false)
-RootIs (fin s zero e) a = a ≡ Is (fin s zero e)
-RootIs (fin true (suc m) e) a = a ≡ No
-RootIs (fin false (suc m) e) a = (r : Float) × (a ≡ Is r) × Nearest (fin false (suc m) e) r
+unfoldable pub RootIs : Float → Option Float → Type 0
+RootIs nan a = a ≡ None
+RootIs (inf true) a = a ≡ None
+RootIs (inf false) a = a ≡ Some (inf false)
+RootIs (fin s zero e) a = a ≡ Some (fin s zero e)
+RootIs (fin true (suc m) e) a = a ≡ None
+RootIs (fin false (suc m) e) a = (r : Float) × (a ≡ Some r) × Nearest (fin false (suc m) e) r
 
 -- ---- the same answer, worked out: the definitions above this crate speak of it as a function
 
@@ -43,14 +41,14 @@ unfoldable pub pattern_of : ℕ → ℕ
 unfolding isqrt
 pattern_of X = let h = (size X - 1) / 2 - 53 in (h + 1) * 2 ^ 52 + (isqrt 54 (X / 4 ^ h) + 1) / 2
 
-unfoldable pub root_of : Float → Root
+unfoldable pub root_of : Float → Option Float
 unfolding pattern_of mag
-root_of nan = No
-root_of (inf true) = No
-root_of (inf false) = Is (inf false)
-root_of (fin s zero e) = Is (fin s zero e)
-root_of (fin true (suc m) e) = No
-root_of (fin false (suc m) e) = Is (of_bits binary64 (pattern_of (mag (fin false (suc m) e) * 2 ^ 1074)))
+root_of nan = None
+root_of (inf true) = None
+root_of (inf false) = Some (inf false)
+root_of (fin s zero e) = Some (fin s zero e)
+root_of (fin true (suc m) e) = None
+root_of (fin false (suc m) e) = Some (of_bits binary64 (pattern_of (mag (fin false (suc m) e) * 2 ^ 1074)))
 
 -- ---- what the steps of the code promise each other
 

@@ -7,11 +7,7 @@ ghost use Rattle.square_root.specs.Guess.{Remainder, rounded_root};
 
 mod guess;
 
-#[derive(Clone, Copy)]
-pub enum Root {
-    Is(f64),
-    No,
-}
+use guess::Square;
 
 // What is worked out so far: the root's digits, and what is left over.
 #[derive(Clone, Copy)]
@@ -45,11 +41,9 @@ fn digits(w: u64) -> u64
 {
     let mut left = w;
     let mut p = Part { root: 0, rem: 0 };
-    let mut i: u64 = 0;
-    while i < 54 {
+    for _ in 0..54u64 {
         p = step(p, left / 4611686018427387904);
         left = left % 4611686018427387904 * 4;
-        i += 1;
     }
     p.root
 }
@@ -69,10 +63,8 @@ fn settled(w: u64, m: u64, rem: u64) -> u64
     requires { (Remainder w m rem) × (m ≤ 9007199254740992) }
     ensures { result ≡ rounded_root w }
 {
-    if SPARE - m < rem {
-        if rem <= SPARE + m {
-            return m;
-        }
+    if SPARE - m < rem && rem <= SPARE + m {
+        return m;
     }
     digit_by_digit(w)
 }
@@ -101,15 +93,10 @@ fn rounded(w: u64, m: u64) -> u64
     requires { (4503599627370496 ≤ m) × (m < 9007199254740992) }
     ensures { result ≡ rounded_root w }
 {
-    let s = guess::squared(m);
-    let top = s.top;
-    let low = s.low;
+    let Square { top, low } = guess::squared(m);
     let a = w / 1024 + 8;
     let b = w % 1024 * 4398046511104;
-    if a < top + 2 {
-        return digit_by_digit(w);
-    }
-    if top + 15 < a {
+    if a < top + 2 || top + 15 < a {
         return digit_by_digit(w);
     }
     let rem = (a - top) * 4503599627370496 + b - low;
@@ -148,28 +135,22 @@ fn pattern(b: u64) -> u64
 {
     let c = significand(b);
     let k = exponent(b);
-    let z = u64::leading_zeros(c) as u64;
+    let z = u64::from(c.leading_zeros());
     let s = z - (z + k) % 2;
     let h = (k + 1074 - s) / 2 - 22;
     (h + 1) * 4503599627370496 + rounded(c << s, guess::estimate(b))
 }
 
-// The double nearest the root of x.
-pub fn sqrt(x: f64) -> Root
+// The double nearest the root of x. NaN and what is below zero have none.
+pub fn sqrt(x: f64) -> Option<f64>
     ensures { (result ≡ root_of x) × RootIs x result }
 {
-    if x != x {
-        return Root::No;
+    if x.is_nan() || x < 0.0 {
+        return None;
     }
-    if x == 0.0 {
-        return Root::Is(x);
+    let b = x.to_bits();
+    if x == 0.0 || b == 9218868437227405312 {
+        return Some(x);
     }
-    if x < 0.0 {
-        return Root::No;
-    }
-    let b = f64::to_bits(x);
-    if b == 9218868437227405312 {
-        return Root::Is(x);
-    }
-    Root::Is(f64::from_bits(pattern(b)))
+    Some(f64::from_bits(pattern(b)))
 }

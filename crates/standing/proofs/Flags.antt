@@ -9,8 +9,7 @@ use lib.Seq.{ext_get_or}
 use Rattle.numbers.specs.Table.{tab}
 use Rattle.numbers.proofs.Tables.{length-tab, get_or-tab}
 use Rattle.refusals.specs.Refusals.{scan, lowest, found}
-use Rattle.refusals.specs.declared.Place.{Place}
-use Rattle.refusals.specs.declared.Place.TheVariants.{At, Nothing}
+use Rattle.std.specs.Prelude.{Option, Some, None}
 use Rattle.refusals.proofs.Searches.{lowest-none, lowest-some}
 use Rattle.standing.specs.Standing.{another, some}
 
@@ -59,12 +58,12 @@ module _ (has : ℕ → Bool) where
   unfolding scan found
   scan-more zero i = let e : i + 0 ≡ i = omega arith in rw e (go (has i))
     where
-      go : (b : Bool) → found (cond b (At i) Nothing) ≡ b
+      go : (b : Bool) → found (cond b (Some i) None) ≡ b
       go true = refl
       go false = refl
   scan-more (suc k) i = let e : i + suc k ≡ suc i + k = omega arith in rw e (go (has i) (scan has (suc k) (suc i)) (scan has k (suc i)) (has (suc i + k)) (scan-more k (suc i)))
     where
-      go : (b : Bool) (x y : Place) (c : Bool) → found x ≡ (found y || c) → found (cond b (At i) x) ≡ (found (cond b (At i) y) || c)
+      go : (b : Bool) (x y : Option ℕ) (c : Bool) → found x ≡ (found y || c) → found (cond b (Some i) x) ≡ (found (cond b (Some i) y) || c)
       go true x y c e = refl
       go false x y c e = e
 
@@ -76,17 +75,17 @@ module _ (has : ℕ → Bool) where
   unfolding found
   some-where n e = go (lowest has n) refl e
     where
-      go : (p : Place) → lowest has n ≡ p → found p ≡ true → (x : ℕ) × (x < n) × (has x ≡ true)
-      go (At x) f g = let s = lowest-some has n x f in (x, s.1, s.0)
-      go Nothing f g = absurd (true≢false (sym g))
+      go : (p : Option ℕ) → lowest has n ≡ p → found p ≡ true → (x : ℕ) × (x < n) × (has x ≡ true)
+      go (Some x) f g = let s = lowest-some has n x f in (x, s.1, s.0)
+      go None f g = absurd (true≢false (sym g))
 
   pub some-none : (n : ℕ) → some has n ≡ false → (x : ℕ) → x < n → has x ≡ false
   unfolding found
   some-none n e x h = go (lowest has n) refl e
     where
-      go : (p : Place) → lowest has n ≡ p → found p ≡ false → has x ≡ false
-      go (At y) f g = absurd (true≢false g)
-      go Nothing f g = lowest-none has n f x h
+      go : (p : Option ℕ) → lowest has n ≡ p → found p ≡ false → has x ≡ false
+      go (Some y) f g = absurd (true≢false g)
+      go None f g = lowest-none has n f x h
 
   pub none_has : (n : ℕ) → ((x : ℕ) → x < n → has x ≡ false) → some has n ≡ false
   none_has n f = go (some has n) refl

@@ -1,19 +1,17 @@
--- The checks of the call at each way out, what they have shown, and the marks then. Assumes nothing.
+-- What the checks of the call have shown, and the marks then. Assumes nothing.
 use mathlib.Core.Bool.{Bool, true, false, cond, ◌||◌}
 use mathlib.Core.List.{List}
 use mathlib.Core.Path.{◌≡◌, refl, sym, ap, ap₂, ◌∙◌}
 use Prim.Native.Nat.{ℕ, suc, ◌-◌, ◌*◌, ◌/◌, ◌%◌, ◌≤◌, ◌<◌}
 use native.Mathlib.Omega.{arith}
-use borrow.Author.Tests.{eq-eqb, ne_eqb, ltb-false}
+use borrow.Author.Tests.{ltb-false}
 use lib.Dec.{ltb}
 use lib.ListN.{length}
 use Rattle.numbers.specs.Table.{tab}
 use Rattle.numbers.proofs.Tables.{length-tab, get_or-tab}
-use Rattle.refusals.specs.Refusals.{plain_of, or_else}
-use Rattle.refusals.specs.declared.Place.{Place}
-use Rattle.refusals.specs.declared.Place.TheVariants.{Nothing}
-use Rattle.refusals.specs.declared.Verdict.{Verdict}
-use Rattle.refusals.specs.declared.Verdict.TheVariants.{Fine, Refused}
+use Rattle.std.specs.Prelude.{Err}
+use Rattle.refusals.specs.Refusals.{Verdict, fine}
+use Rattle.refusals.specs.declared.Refusal.{Refusal}
 use Rattle.refusals.proofs.Flags.{neither}
 use Rattle.refusals.proofs.Verdicts.{plain-fine, both-fine}
 use Rattle.arm.specs.Model.{wild_of, Good}
@@ -26,40 +24,15 @@ use Rattle.calls.proofs.Fits.{fits, side-most}
 use Rattle.plain_matrix.specs.PlainMatrix.{joint_with}
 use Rattle.plain_matrix.proofs.Listed.{in-square}
 use Rattle.plain_matrix.proofs.Roots.{with_number}
-use Rattle.standing.specs.Standing.{Changes, another, composite_touched, stands_between, joint_mark, mark_at, mark_number, marks_of, marks_room, stands_verdict, stands_call, stands_by}
+use Rattle.standing.specs.Standing.{Changes, another, composite_touched, stands_between, joint_mark, mark_at, mark_number, marks_of, stands_verdict, stands_call, stands_by}
 use Rattle.standing.proofs.Flags.{as-table}
 
 module _ (floating : Bool) (n : ℕ) (parents kinds : List ℕ) where
   abbrev plan : Plan
   plan = plan_of floating n kinds
 
-  -- ---- how many marks
-
-  pub room-none : wild_of n parents kinds ≡ true → 0 ≡ marks_room floating n parents kinds
-  unfolding marks_room
-  room-none e = rw e
-
-  pub room-is : wild_of n parents kinds ≡ false → {r : ℕ} → r ≡ plan.side * plan.side → r ≡ marks_room floating n parents kinds
-  unfolding marks_room
-  room-is e d = d ∙ rw e
-
   module _ (room : ℕ) where
-    -- ---- the verdict
-
-    pub refuses-9 : wild_of n parents kinds ≡ true → Refused 9 Nothing ≡ stands_verdict floating n parents kinds room
-    unfolding stands_verdict plain_of or_else
-    refuses-9 e = rw e
-
-    module _ (e : wild_of n parents kinds ≡ false) {r : ℕ} (d : r ≡ plan.side * plan.side) where
-      pub refuses-17 : (room ≡ r → ⊥) → Refused 17 Nothing ≡ stands_verdict floating n parents kinds room
-      unfolding stands_verdict plain_of or_else
-      refuses-17 f = rw (e, ne_eqb room (plan.side * plan.side) (λ z. f (z ∙ sym d)))
-
-      pub refuses-none : room ≡ r → Fine ≡ stands_verdict floating n parents kinds room
-      unfolding stands_verdict plain_of or_else
-      refuses-none f = rw (e, eq-eqb room (plan.side * plan.side) (f ∙ d))
-
-    module _ (v : stands_verdict floating n parents kinds room ≡ Fine) where
+    module _ (v : stands_verdict floating n parents kinds room ≡ fine) where
       pub passed : Good n parents kinds
       unfolding stands_verdict
       passed = tame n parents kinds (plain-fine 9 (wild_of n parents kinds) (both-fine _ _ v).0)
@@ -103,11 +76,11 @@ module _ (p : Plan) (parents kinds numbers : List ℕ) (fit : Fit p parents kind
 -- ---- the call
 
 module _ (floating : Bool) (n : ℕ) (parents kinds : List ℕ) (c : Changes) (marks : List Bool) {v : Verdict} (ev : v ≡ stands_verdict floating n parents kinds (length marks)) where
-  pub call-refused : (number : ℕ) (i : Place) → v ≡ Refused number i → ◌≡◌ {A = Verdict × List Bool} (Refused number i, marks) (stands_call floating n parents kinds c marks)
+  pub call-refused : (e : Refusal) → v ≡ Err e → ◌≡◌ {A = Verdict × List Bool} (Err e, marks) (stands_call floating n parents kinds c marks)
   unfolding stands_call
-  call-refused number i e = rw (sym ev ∙ e)
+  call-refused e h = rw (sym ev ∙ h)
 
-  module _ (e : v ≡ Fine) (p : Plan) (a : ℕ) (ea : a ≡ actives_of kinds n) (ep : p ≡ plan_by floating n a) (composites : List Bool)
+  module _ (e : v ≡ fine) (p : Plan) (a : ℕ) (ea : a ≡ actives_of kinds n) (ep : p ≡ plan_by floating n a) (composites : List Bool)
       (ec : composites ≡ tab (composite_touched n parents kinds c.links c.frames c.axes) 33) where
     good : Good n parents kinds
     good = passed floating n parents kinds (length marks) (sym ev ∙ e)
@@ -123,8 +96,8 @@ module _ (floating : Bool) (n : ℕ) (parents kinds : List ℕ) (c : Changes) (m
     rule-same J I h = rw (ap (λ (s : List Bool). another s (suc J)) ec ∙ get_or-tab _ false 33 (suc J) (omega (arith, good.tree.few)))
 
     pub call-fine : {made : List Bool} → made ≡ marks_of p kinds (stands_by p.n parents kinds composites c.frames c.axes c.rotors)
-        → ◌≡◌ {A = Verdict × List Bool} (Fine, made) (stands_call floating n parents kinds c marks)
+        → ◌≡◌ {A = Verdict × List Bool} (fine, made) (stands_call floating n parents kinds c marks)
     unfolding stands_call plan_by
     call-fine d =
         rw (sym ev ∙ e, d, is-plan)
-        (ap (λ (l : List Bool). (Fine, l)) (marks-same (plan_of floating n kinds) parents kinds (active_numbers kinds) (fits floating n parents kinds good (active_numbers kinds) refl) _ _ (λ J I h g. rule-same J I h)))
+        (ap (λ (l : List Bool). (fine, l)) (marks-same (plan_of floating n kinds) parents kinds (active_numbers kinds) (fits floating n parents kinds good (active_numbers kinds) refl) _ _ (λ J I h g. rule-same J I h)))

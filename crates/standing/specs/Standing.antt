@@ -1,9 +1,7 @@
 -- Which entries of a mass matrix stand, where some links, frames, axes and rotors are not what they were (document 02, item 7). Definitions only.
-use Rattle.std.specs.Prelude.{Bool, false, not, cond, ◌&&◌, ◌||◌, List, ℕ, suc, ◌-◌, ◌*◌, ◌/◌, ◌%◌, eqb, ltb, length, get_or}
+use Rattle.std.specs.Prelude.{Bool, false, not, cond, ◌&&◌, ◌||◌, List, ℕ, suc, ◌-◌, ◌*◌, ◌/◌, ◌%◌, eqb, ltb, length, get_or, Ok, Err}
 use Rattle.numbers.specs.Table.{tab}
-use Rattle.refusals.specs.Refusals.{lowest, found, plain_of, or_else}
-use Rattle.refusals.specs.declared.Verdict.{Verdict}
-use Rattle.refusals.specs.declared.Verdict.TheVariants.{Fine, Refused}
+use Rattle.refusals.specs.Refusals.{lowest, found, plain_of, or_else, Verdict}
 use Rattle.arm.specs.Joint.{is_fixed}
 use Rattle.arm.specs.Model.{parent_of, kind_of, wild_of}
 use Rattle.calls.specs.Plan.{plan_of}
@@ -91,8 +89,8 @@ stands_verdict floating n parents kinds room =
 
 -- a refusal leaves the marks
 abbrev pub marked_by : Verdict → List Bool → List Bool → List Bool
-marked_by Fine marks made = made
-marked_by (Refused number i) marks made = marks
+marked_by (Ok u) marks made = made
+marked_by (Err r) marks made = marks
 
 -- THE CALL: the verdict, and the marks after it
 unfoldable pub stands_call : Bool → ℕ → List ℕ → List ℕ → Changes → List Bool → Verdict × List Bool

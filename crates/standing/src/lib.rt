@@ -11,20 +11,21 @@ ghost use Rattle.standing.specs.Standing.{changes, marks_room, stands_verdict, s
 
 use arm::{model, topology};
 use calls::plan;
-use refusals::{Place, Verdict};
+use refusals::Refusal;
 
 // How many entries the matrix has.
+#[tactic(auto, using(arm::proofs::topology::Counts::bounds))]
 fn entries<'a>(floating: bool, n: usize, kinds: &'a [u8; 32], numbers: &'a [u8; 33]) -> usize
     requires { (numbers.now ≡ active_numbers kinds.now) × (n ≤ 32) }
     ensures { (result ≡ (plan_of floating n kinds.now).side * (plan_of floating n kinds.now).side) × (result ≤ 1444) }
 {
     let a = topology::number_at(kinds, numbers, n);
-    let p = plan::planned(floating, n, a);
-    let side = p.side;
+    let side = plan::planned(floating, n, a).side;
     side * side
 }
 
 // How many marks a call takes: one for each entry, none of a model with cause 9.
+#[tactic(auto, unfolding(crate::specs::Standing::marks_room))]
 pub fn marks_room<'a>(floating: bool, n: usize, parents: &'a [u8; 32], kinds: &'a [u8; 32]) -> usize
     ensures { (result ≡ marks_room floating n parents.now kinds.now) × (result ≤ 1444) }
 {
@@ -36,6 +37,7 @@ pub fn marks_room<'a>(floating: bool, n: usize, parents: &'a [u8; 32], kinds: &'
 }
 
 // 9, and 17 for the marks.
+#[tactic(auto, unfolding(crate::specs::Standing::stands_verdict, refusals::specs::Refusals::plain_of, refusals::specs::Refusals::or_else))]
 fn judged<'a>(
     floating: bool,
     n: usize,
@@ -43,17 +45,14 @@ fn judged<'a>(
     kinds: &'a [u8; 32],
     numbers: &'a [u8; 33],
     room: usize,
-) -> Verdict
+) -> Result<(), Refusal>
     requires { numbers.now ≡ active_numbers kinds.now }
     ensures { result ≡ stands_verdict floating n parents.now kinds.now room }
 {
     if model::wild(n, parents, kinds) {
-        return Verdict::Refused(9, Place::Nothing);
+        return Err(Refusal::plain(9));
     }
-    if room != entries(floating, n, kinds, numbers) {
-        return Verdict::Refused(17, Place::Nothing);
-    }
-    Verdict::Fine
+    refusals::plain(17, room != entries(floating, n, kinds, numbers))
 }
 
 // Marks the entries that stand. `frames` names the joints whose origin or number of q is another; a refusal leaves the marks.
@@ -67,29 +66,24 @@ pub fn stands<'a>(
     axes: &'a [bool; 32],
     rotors: &'a [bool; 32],
     marks: &mut [bool],
-) -> Verdict
+) -> Result<(), Refusal>
     ensures { (result, marks.new) ≡ stands_call floating n parents.now kinds.now (changes links.now frames.now axes.now rotors.now) marks.old }
 {
     let numbers = topology::active_numbers(kinds);
-    let v = judged(floating, n, parents, kinds, &numbers, marks.len());
-    match v {
-        Verdict::Refused(number, place) => Verdict::Refused(number, place),
-        Verdict::Fine => {
-            let a = topology::number_at(kinds, &numbers, n);
-            let p = plan::planned(floating, n, a);
-            let composites = touched::composites(n, parents, kinds, links, frames, axes);
-            marks::put_marks(
-                p,
-                parents,
-                kinds,
-                &numbers,
-                &composites,
-                frames,
-                axes,
-                rotors,
-                marks,
-            );
-            Verdict::Fine
-        }
-    }
+    judged(floating, n, parents, kinds, &numbers, marks.len())?;
+    let a = topology::number_at(kinds, &numbers, n);
+    let p = plan::planned(floating, n, a);
+    let composites = touched::composites(n, parents, kinds, links, frames, axes);
+    marks::put_marks(
+        p,
+        parents,
+        kinds,
+        &numbers,
+        &composites,
+        frames,
+        axes,
+        rotors,
+        marks,
+    );
+    Ok(())
 }

@@ -10,6 +10,7 @@ use calls::plan::Plan;
 use plain_matrix::matrix;
 
 // The entry of two active numbers: the higher one is the column's.
+#[tactic(auto, unfolding(crate::specs::Standing::joint_mark))]
 fn joint_mark<'a>(
     n: usize,
     parents: &'a [u8; 32],
@@ -34,6 +35,7 @@ fn joint_mark<'a>(
 }
 
 // Any entry.
+#[tactic(auto, unfolding(crate::specs::Standing::mark_at))]
 fn mark_at<'a>(
     p: Plan,
     parents: &'a [u8; 32],
@@ -49,16 +51,11 @@ fn mark_at<'a>(
     requires { Fit p parents.now kinds.now numbers.now × (row < p.side) × (column < p.side) }
     ensures { result ≡ mark_at p kinds.now (stands_by p.n parents.now kinds.now composites.now frames.now axes.now rotors.now) row column }
 {
-    let n = p.n;
-    let lead = p.lead;
-    if row < lead {
-        return false;
-    }
-    if column < lead {
+    if row < p.lead || column < p.lead {
         return false;
     }
     joint_mark(
-        n,
+        p.n,
         parents,
         kinds,
         numbers,
@@ -66,8 +63,8 @@ fn mark_at<'a>(
         frames,
         axes,
         rotors,
-        row - lead,
-        column - lead,
+        row - p.lead,
+        column - p.lead,
     )
 }
 
@@ -86,11 +83,8 @@ pub fn put_marks<'a>(
     requires { Fit p parents.now kinds.now numbers.now × (p.side ≤ 38) × (length marks.old ≡ p.side * p.side) }
     ensures { marks.new ≡ marks_of p kinds.now (stands_by p.n parents.now kinds.now composites.now frames.now axes.now rotors.now) }
 {
-    let side = p.side;
-    let count = side * side;
-    let mut t: usize = 0;
-    while t < count {
-        marks[t] = mark_at(
+    for (t, mark) in marks.iter_mut().enumerate() {
+        *mark = mark_at(
             p,
             parents,
             kinds,
@@ -99,9 +93,8 @@ pub fn put_marks<'a>(
             frames,
             axes,
             rotors,
-            t % side,
-            t / side,
+            t % p.side,
+            t / p.side,
         );
-        t += 1;
     }
 }

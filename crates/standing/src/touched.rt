@@ -8,6 +8,7 @@ ghost use Rattle.standing.specs.Standing.{another, some, reframed, composite_tou
 use arm::model;
 
 // Joint x's frame.
+#[tactic(auto, unfolding(crate::specs::Standing::reframed))]
 fn reframed_at<'a>(
     kinds: &'a [u8; 32],
     frames: &'a [bool; 32],
@@ -17,13 +18,7 @@ fn reframed_at<'a>(
     requires { x < 32 }
     ensures { result ≡ reframed kinds.now frames.now axes.now x }
 {
-    if frames[x] {
-        return true;
-    }
-    if kinds[x] == 2 {
-        return false;
-    }
-    axes[x]
+    frames[x] || (kinds[x] != 2 && axes[x])
 }
 
 // Flags every link that carries link x: x itself, and on to the root.
@@ -44,12 +39,10 @@ fn flag_links<'a>(n: usize, parents: &'a [u8; 32], links: &'a [bool; 33], flags:
     requires { Tree n parents.now × (length flags.old ≡ 33) }
     ensures { flags.new ≡ tab (λ l. another flags.old l || some (λ x. carries (parent_of parents.now) l x && another links.now x) (suc n)) 33 }
 {
-    let mut x: usize = 0;
-    while x <= n {
+    for x in 0..=n {
         if links[x] {
             flag_up(n, parents, x, flags);
         }
-        x += 1;
     }
 }
 
@@ -65,12 +58,10 @@ fn flag_frames<'a>(
     requires { Tree n parents.now × (length flags.old ≡ 33) }
     ensures { flags.new ≡ tab (λ l. another flags.old l || some (λ x. carries (parent_of parents.now) l (parent_of parents.now x) && reframed kinds.now frames.now axes.now x) n) 33 }
 {
-    let mut x: usize = 0;
-    while x < n {
+    for x in 0..n {
         if reframed_at(kinds, frames, axes, x) {
             flag_up(n, parents, model::parent_at(n, parents, x), flags);
         }
-        x += 1;
     }
 }
 
@@ -98,16 +89,7 @@ fn own<'a>(axes: &'a [bool; 32], rotors: &'a [bool; 32], j: usize, i: usize) -> 
     requires { (j < 32) × (i < 32) }
     ensures { result ≡ own_touched axes.now rotors.now j i }
 {
-    if axes[j] {
-        return true;
-    }
-    if axes[i] {
-        return true;
-    }
-    if j == i {
-        return rotors[j];
-    }
-    false
+    axes[j] || axes[i] || (j == i && rotors[j])
 }
 
 // Goes up from joint j until joint i is met: whether their entry stands. `touched` says whether anything but a frame between them is.
@@ -127,9 +109,7 @@ fn stands_up<'a>(
     let mut known = touched;
     let mut at = j;
     while at != i {
-        if reframed_at(kinds, frames, axes, at) {
-            known = true;
-        }
+        known = known || reframed_at(kinds, frames, axes, at);
         let up = model::parent_at(n, parents, at);
         if up == 0 {
             return true; // i does not carry j
@@ -140,6 +120,7 @@ fn stands_up<'a>(
 }
 
 // Whether the entry between joints j and i stands.
+#[tactic(auto, unfolding(crate::specs::Standing::stands_by))]
 pub fn stands_between<'a>(
     n: usize,
     parents: &'a [u8; 32],
@@ -154,9 +135,6 @@ pub fn stands_between<'a>(
     requires { Tree n parents.now × (j < n) × (i < n) }
     ensures { result ≡ stands_by n parents.now kinds.now composites.now frames.now axes.now rotors.now j i }
 {
-    let mut touched = composites[j + 1];
-    if !touched {
-        touched = own(axes, rotors, j, i);
-    }
+    let touched = composites[j + 1] || own(axes, rotors, j, i);
     stands_up(n, parents, kinds, frames, axes, touched, j, i)
 }

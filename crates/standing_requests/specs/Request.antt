@@ -1,19 +1,16 @@
 -- The request `stands`, of the words behind the first. Assumes nothing.
-use Rattle.std.specs.Prelude.{Bool, true, false, cond, ◌&&◌, ◌||◌, List, [], ◌∷◌, ℕ, suc, eqb, ltb}
-use Rattle.std.proofs.Math.Option.{Option, none, some}
+use Rattle.std.specs.Prelude.{Bool, true, false, cond, ◌&&◌, ◌||◌, List, [], ◌∷◌, ℕ, suc, eqb, ltb, Ok, Err, codes}
 use Rattle.numbers.specs.Table.{tab}
-use Rattle.refusals.specs.declared.Verdict.{Verdict}
-use Rattle.refusals.specs.declared.Verdict.TheVariants.{Fine, Refused}
+use Rattle.refusals.specs.Refusals.{Verdict}
 use Rattle.words.specs.Read.{Reader, give, fail, ◌>>=◌, ◌>>◌, end}
-use Rattle.words.specs.declared.read.Cursor.{Cursor}
 use Rattle.words.specs.List.{numbers}
-use Rattle.words.specs.Write.{bytes, row, hex_text, list_text}
+use Rattle.std.specs.List.{concat, list_all}
+use Rattle.words.specs.Write.{mark_text, list_text}
 use Rattle.arm.specs.declared.model.Model.{Model}
-use Rattle.standing.specs.Standing.{changes, marks_room, stands_call}
+use Rattle.standing.specs.Standing.{Changes, changes, marks_room, stands_call}
 use Rattle.readings.specs.Read.{flag}
 use Rattle.replies.specs.Replies.{refused_text}
-use Rattle.standing_requests.specs.declared.request.NextNamed.{NextNamed}
-use Rattle.standing_requests.specs.declared.request.NextNamed.TheVariants.{Is, No}
+use Rattle.standing_requests.specs.declared.request.Told.{Told}
 
 -- ---- a LIST of links or of joints
 
@@ -22,9 +19,8 @@ unfoldable pub listed : List ℕ → ℕ → Bool
 listed [] x = false
 listed (y ∷ l) x = eqb y x || listed l x
 
-unfoldable pub all_below : ℕ → List ℕ → Bool
-all_below limit [] = true
-all_below limit (y ∷ l) = ltb y limit && all_below limit l
+abbrev pub all_below : ℕ → List ℕ → Bool
+all_below limit l = list_all (λ y. ltb y limit) l
 
 -- numbers below a limit, as a flag for each number below the size
 unfoldable pub named : ℕ → ℕ → Reader (List Bool)
@@ -34,31 +30,32 @@ named limit size = do
 
 -- ---- the answer
 
-abbrev pub mark_text : Bool → List ℕ
-mark_text b = hex_text (cond b 1 0)
-
 abbrev pub stands_text : Verdict → List Bool → List ℕ
-stands_text Fine marks = row (bytes "stands " ∷ list_text mark_text marks ∷ bytes "\n" ∷ [])
-stands_text (Refused number p) marks = row (refused_text number p ∷ bytes "\n" ∷ [])
+stands_text (Ok u) marks = concat (codes "stands " ∷ list_text mark_text marks ∷ codes "\n" ∷ [])
+stands_text (Err r) marks = concat (refused_text r ∷ codes "\n" ∷ [])
 
 -- on marks that are lent as false, one for each entry
-abbrev pub stands_line : Model → Bool → List Bool → List Bool → List Bool → List Bool → List ℕ
-stands_line m floating links frames axes rotors =
-    let made = stands_call floating m.n m.parents m.kinds (changes links frames axes rotors) (tab (λ t. false) (marks_room floating m.n m.parents m.kinds)) in
+abbrev pub stands_line : Model → Bool → Changes → List ℕ
+stands_line m floating c =
+    let made = stands_call floating m.n m.parents m.kinds c (tab (λ t. false) (marks_room floating m.n m.parents m.kinds)) in
     stands_text made.0 made.1
 
--- ROOT LINKS FRAMES AXES ROTORS
+-- ROOT LINKS FRAMES AXES ROTORS, of n joints: whether the root floats, and what is not what it was
+unfoldable pub told : ℕ → Reader (Bool × Changes)
+told n = do
+  floating ← flag
+  links ← named (suc n) 33
+  frames ← named n 32
+  axes ← named n 32
+  rotors ← named n 32
+  end
+  give (floating, changes links frames axes rotors)
+
 unfoldable pub stands_request : Model → Reader (List ℕ)
 stands_request m = do
-  floating ← flag
-  links ← named (suc m.n) 33
-  frames ← named m.n 32
-  axes ← named m.n 32
-  rotors ← named m.n 32
-  end
-  give (stands_line m floating links frames axes rotors)
+  t ← told m.n
+  give (stands_line m t.0 t.1)
 
--- ---- what the functions answer
-abbrev pub named_of : List Bool → NextNamed → Option (List Bool × Cursor)
-named_of flags (Is c) = some (flags, c)
-named_of flags No = none
+-- ---- what the code's struct says
+abbrev pub told_by : Told → Bool × Changes
+told_by t = (t.floating, changes t.links t.frames t.axes t.rotors)

@@ -1,42 +1,31 @@
 // The request `stands ROOT LINKS FRAMES AXES ROTORS`.
-ghost use Rattle.std.specs.Prelude.{◌≡◌, false, ◌++◌, ◌+◌, ◌*◌, ◌≤◌, length, take};
+ghost use Rattle.std.specs.Prelude.{◌≡◌, false, ◌++◌, ◌+◌, ◌≤◌, length, take, option_map, ltb};
 ghost use Rattle.numbers.specs.Table.{tab};
-ghost use Rattle.words.specs.Read.{words_at, ReadBy};
-ghost use Rattle.words.specs.Write.{list_text};
+ghost use Rattle.words.specs.Read.{ReadBy};
 ghost use Rattle.replies.specs.Replies.{room, text_of};
-ghost use Rattle.standing_requests.specs.Request.{listed, all_below, named, named_of, mark_text, stands_text, stands_line, stands_request};
+ghost use Rattle.standing.specs.Standing.{changes};
+ghost use Rattle.standing_requests.specs.Request.{listed, all_below, named, stands_text, stands_line, told, told_by, stands_request};
 
 use arm::model::Model;
-use readings::read::{NextFlag, next_flag};
-use refusals::Verdict;
+use readings::read::next_flag;
+use refusals::Refusal;
 use replies::{error, put_refused};
 use standing::{marks_room, stands};
-use words::list::{Listed, number_buffer, numbers};
-use words::read::{Cursor, at_end};
-use words::write::{put, put_number};
-
-// The cursor past a list, if it names only what there is.
-#[derive(Clone, Copy)]
-pub enum NextNamed {
-    Is(Cursor),
-    No,
-}
+use words::list::number_buffer;
+use words::read::Words;
+use words::write::{put, put_list};
 
 // Below n + more, which may be no number of 64 bits.
+fn is_below(x: u64, n: u64, more: u64) -> bool
+    ensures { result ≡ ltb x (n + more) }
+{
+    x < n || x - n < more
+}
+
 fn all_below(l: &[u64], n: u64, more: u64) -> bool
     ensures { result ≡ all_below (n + more) l.now }
 {
-    let mut k = 0;
-    while k < l.len() {
-        let x = l[k];
-        if n <= x {
-            if more <= x - n {
-                return false;
-            }
-        }
-        k += 1;
-    }
-    true
+    l.iter().all(|x| is_below(*x, n, more))
 }
 
 // Flags what is listed, among flags that are all false.
@@ -44,62 +33,41 @@ fn flag_listed(l: &[u64], flags: &mut [bool])
     requires { flags.old ≡ tab (λ t. false) (length flags.old) }
     ensures { flags.new ≡ tab (listed l.now) (length flags.old) }
 {
-    let mut k = 0;
-    while k < l.len() {
-        let x = l[k];
-        if x < flags.len() as u64 {
-            flags[x as usize] = true;
+    for x in l {
+        if *x < flags.len() as u64 {
+            flags[*x as usize] = true;
         }
-        k += 1;
     }
 }
 
 // A list of numbers below n + more.
-fn next_named(s: &[u8], c: Cursor, n: u64, more: u64, flags: &mut [bool]) -> NextNamed
-    requires { (c.at ≤ length s.now) × (flags.old ≡ tab (λ t. false) (length flags.old)) }
-    ensures { ReadBy (named (n + more) (length flags.old)) s.now c (named_of flags.new result) }
+#[tactic(auto, unfolding(crate::specs::Request::named))]
+fn next_named(words: &mut Words, n: u64, more: u64, flags: &mut [bool]) -> Option<()>
+    requires { flags.old ≡ tab (λ t. false) (length flags.old) }
+    ensures { ReadBy (named (n + more) (length flags.old)) words.old (option_map (λ _. flags.new) result) words.new }
 {
     let mut list = number_buffer();
-    let Listed::Got(size, d) = numbers(s, c, &mut list) else {
-        return NextNamed::No;
-    };
-    if !all_below(&list[..size], n, more) {
-        return NextNamed::No;
+    let size = words.list(&mut list)?;
+    let listed = &list[..size];
+    if !all_below(listed, n, more) {
+        return None;
     }
-    flag_listed(&list[..size], flags);
-    NextNamed::Is(d)
+    flag_listed(listed, flags);
+    Some(())
 }
 
-fn put_marks(text: &mut [u8], at: usize, marks: &[bool]) -> usize
-    requires { at + 17 * length marks.now + 16 ≤ length text.old }
-    ensures { (at ≤ result) × (result ≤ at + 17 * length marks.now + 16) × (take result text.new ≡ take at text.old ++ list_text mark_text marks.now) }
-{
-    let mut a = put_number(text, at, marks.len() as u64);
-    let mut i = 0;
-    while i < marks.len() {
-        let b = put(text, a, b" ");
-        let mut one = 0;
-        if marks[i] {
-            one = 1;
-        }
-        a = put_number(text, b, one);
-        i += 1;
-    }
-    a
-}
-
-fn put_stands(text: &mut [u8], at: usize, v: Verdict, marks: &[bool]) -> usize
+fn put_stands(text: &mut [u8], at: usize, v: Result<(), Refusal>, marks: &[bool]) -> usize
     requires { (length marks.now ≤ 1444) × (at + room ≤ length text.old) }
     ensures { (at ≤ result) × (result ≤ at + room) × (take result text.new ≡ take at text.old ++ stands_text v marks.now) }
 {
     match v {
-        Verdict::Refused(number, p) => {
-            let a = put_refused(text, at, number, p);
+        Err(refusal) => {
+            let a = put_refused(text, at, refusal);
             put(text, a, b"\n")
         }
-        Verdict::Fine => {
+        Ok(()) => {
             let a = put(text, at, b"stands ");
-            let b = put_marks(text, a, marks);
+            let b = put_list(text, a, marks);
             put(text, b, b"\n")
         }
     }
@@ -123,7 +91,7 @@ fn answer<'a>(
     at: usize,
 ) -> usize
     requires { at + room ≤ length text.old }
-    ensures { (at ≤ result) × (result ≤ at + room) × (take result text.new ≡ take at text.old ++ stands_line m floating links.now frames.now axes.now rotors.now) }
+    ensures { (at ≤ result) × (result ≤ at + room) × (take result text.new ≡ take at text.old ++ stands_line m floating (changes links.now frames.now axes.now rotors.now)) }
 {
     let mut marks = mark_buffer();
     let count = marks_room(floating, m.n, &m.parents, &m.kinds);
@@ -141,32 +109,50 @@ fn answer<'a>(
     put_stands(text, at, v, &marks[..count])
 }
 
-pub fn standing(m: Model, s: &[u8], c: Cursor, text: &mut [u8], at: usize) -> usize
-    requires { (c.at ≤ length s.now) × (at + room ≤ length text.old) }
-    ensures { (at ≤ result) × (result ≤ at + room) × (take result text.new ≡ take at text.old ++ text_of (stands_request m (words_at s.now c))) }
+// ROOT LINKS FRAMES AXES ROTORS.
+#[derive(Clone, Copy)]
+struct Told {
+    floating: bool,
+    links: [bool; 33],
+    frames: [bool; 32],
+    axes: [bool; 32],
+    rotors: [bool; 32],
+}
+
+#[tactic(auto, unfolding(crate::specs::Request::told, words::specs::Read::end))]
+fn next_told(n: u64, words: &mut Words) -> Option<Told>
+    ensures { ReadBy (told n) words.old (option_map told_by result) words.new }
 {
-    let n = m.n as u64;
+    let floating = next_flag(words)?;
     let mut links = [false; 33];
     let mut frames = [false; 32];
     let mut axes = [false; 32];
     let mut rotors = [false; 32];
-    let NextFlag::Is(floating, c0) = next_flag(s, c) else {
-        return error(text, at);
-    };
-    let NextNamed::Is(c1) = next_named(s, c0, n, 1, &mut links) else {
-        return error(text, at);
-    };
-    let NextNamed::Is(c2) = next_named(s, c1, n, 0, &mut frames) else {
-        return error(text, at);
-    };
-    let NextNamed::Is(c3) = next_named(s, c2, n, 0, &mut axes) else {
-        return error(text, at);
-    };
-    let NextNamed::Is(c4) = next_named(s, c3, n, 0, &mut rotors) else {
-        return error(text, at);
-    };
-    if !at_end(s, c4) {
-        return error(text, at);
+    next_named(words, n, 1, &mut links)?;
+    next_named(words, n, 0, &mut frames)?;
+    next_named(words, n, 0, &mut axes)?;
+    next_named(words, n, 0, &mut rotors)?;
+    if !words.at_end() {
+        return None;
     }
-    answer(m, floating, &links, &frames, &axes, &rotors, text, at)
+    Some(Told {
+        floating,
+        links,
+        frames,
+        axes,
+        rotors,
+    })
+}
+
+#[tactic(auto, unfolding(crate::specs::Request::stands_request))]
+pub fn standing(m: Model, mut words: Words, text: &mut [u8], at: usize) -> usize
+    requires { at + room ≤ length text.old }
+    ensures { (at ≤ result) × (result ≤ at + room) × (take result text.new ≡ take at text.old ++ text_of (stands_request m words.entry)) }
+{
+    match next_told(m.n as u64, &mut words) {
+        Some(t) => answer(
+            m, t.floating, &t.links, &t.frames, &t.axes, &t.rotors, text, at,
+        ),
+        None => error(text, at),
+    }
 }

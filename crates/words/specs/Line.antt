@@ -1,6 +1,6 @@
 -- Lines, out of input that comes in blocks. Assumes nothing.
 use Rattle.std.specs.Prelude.{ℕ, Bool, true, not, cond, List, [], ◌∷◌, ◌++◌, length, eqb, ltb}
-use Rattle.words.specs.Read.{run_of}
+use Rattle.std.specs.List.{prefix_len}
 
 -- every byte but a newline
 abbrev pub in_line : ℕ → Bool
@@ -17,4 +17,4 @@ line_of t (b ∷ l) = cond (in_line b) (line_of (line_step t b) l) t
 
 -- how many bytes stand before the first newline
 abbrev pub before_of : List ℕ → ℕ
-before_of l = run_of in_line l
+before_of l = prefix_len in_line l

@@ -1,11 +1,7 @@
--- Lists of numbers and of doubles. Assumes nothing.
-use Rattle.std.specs.Prelude.{ℕ, zero, suc, ◌≤◌, cond, List, [], ◌∷◌, length, take, ltb, Float}
-use Rattle.std.proofs.Math.Option.{Option, none, some}
+-- Lists of items. Assumes nothing.
+use Rattle.std.specs.Prelude.{ℕ, zero, suc, ◌≤◌, cond, List, [], ◌∷◌, length, take, ltb, Float, Option, option_map, IfSome}
 use Rattle.std.specs.Float.{binary64}
 use Rattle.std.specs.Float.Ieee.{of_bits}
-use Rattle.words.specs.declared.read.Cursor.{Cursor}
-use Rattle.words.specs.declared.list.Listed.{Listed}
-use Rattle.words.specs.declared.list.Listed.TheVariants.{Got, Bad}
 use Rattle.words.specs.Read.{Reader, give, fail, ◌>>=◌, number, ReadBy}
 
 -- n numbers, each put through f
@@ -35,15 +31,6 @@ numbers = list (λ v. v)
 abbrev pub doubles : Reader (List Float)
 doubles = list (of_bits binary64)
 
--- ---- what the functions have read: the first items of the lent list l
-abbrev pub list_of : {A : Type 0} → List A → Listed → Option (List A × Cursor)
-list_of l (Got k c) = some (take k l, c)
-list_of l Bad = none
-
--- which are at most limit
-abbrev pub Fits : {A : Type 0} → ℕ → List A → Listed → Type 0
-Fits limit l (Got k c) = (k ≤ limit) × (k ≤ length l)
-Fits limit l Bad = Unit
-
-abbrev pub ListBy : {A : Type 0} → Reader (List A) → ℕ → List ℕ → Cursor → List A → Listed → Type 0
-ListBy reader limit s c l r = ReadBy reader s c (list_of l r) × Fits limit l r
+-- what a function has read into the list l: its first items, and how many
+abbrev pub ListBy : {A : Type 0} → Reader (List A) → List (List ℕ) → List A → Option ℕ → List (List ℕ) → Type 0
+ListBy reader before l r behind = ReadBy reader before (option_map (λ k. take k l) r) behind × IfSome r (λ k. k ≤ length l)

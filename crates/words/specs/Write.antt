@@ -1,20 +1,8 @@
 -- Numbers, doubles and lists as the text of an answer. Assumes nothing.
-use Rattle.std.specs.Prelude.{ℕ, zero, suc, ◌-◌, ◌^◌, cond, List, [], ◌∷◌, ◌++◌, length, ltb, Float}
-use Prim.Native.Char.{code}
-use Prim.Native.String.{String, [] as end, ◌∷◌ as ◌then◌}
+use Rattle.std.specs.Prelude.{ℕ, zero, suc, Bool, ◌-◌, ◌^◌, cond, List, [], ◌∷◌, ◌++◌, length, ltb, codes, Float}
 use Rattle.std.specs.Float.{binary64}
 use Rattle.std.specs.Float.Ieee.{to_bits, is_nan}
 use Rattle.io.specs.Digits.{last_digits}
-
--- the bytes of a text in ASCII
-abbrev pub bytes : String → List ℕ
-bytes end = []
-bytes (c then t) = code c ∷ bytes t
-
--- texts in a row
-abbrev pub row : List (List ℕ) → List ℕ
-row [] = []
-row (t ∷ ts) = t ++ row ts
 
 -- the fewest digits in base b, at least k, that hold n; at most k + f are tried
 unfoldable pub fewest_from : ℕ → ℕ → ℕ → ℕ → ℕ
@@ -29,13 +17,17 @@ width_text w n = last_digits 16 (fewest_from 16 (16 - w) w n) n
 abbrev pub hex_text : ℕ → List ℕ
 hex_text n = width_text 1 n
 
+-- A MARK is 1 or 0
+abbrev pub mark_text : Bool → List ℕ
+mark_text b = hex_text (cond b 1 0)
+
 -- and so in decimal
 unfoldable pub decimal_text : ℕ → List ℕ
 decimal_text n = last_digits 10 (fewest_from 10 19 1 n) n
 
 -- A DOUBLE is `nan`, or the 16 digits of its pattern
 unfoldable pub double_text : Float → List ℕ
-double_text x = cond (is_nan x) (bytes "nan") (width_text 16 (to_bits binary64 x))
+double_text x = cond (is_nan x) (codes "nan") (width_text 16 (to_bits binary64 x))
 
 -- each item behind a space
 unfoldable pub items_text : {A : Type 0} → (A → List ℕ) → List A → List ℕ

@@ -1,17 +1,36 @@
 // Lists of numbers and of doubles, read into a lent slice: a length, then that many words.
-ghost use Rattle.std.specs.Prelude.{◌≡◌, ◌≤◌, length};
+ghost use Rattle.std.specs.Prelude.{◌≡◌, ◌≤◌, ℕ, length, option_map, IfSome};
 ghost use Rattle.std.specs.Float.{binary64};
 ghost use Rattle.std.specs.Float.Ieee.{of_bits};
-ghost use Rattle.words.specs.Read.{ReadBy, next_of};
+ghost use Rattle.words.specs.Read.{ReadBy};
 ghost use Rattle.words.specs.List.{items, size, list, ListBy};
 
-use crate::read::{Cursor, Next, double_of, next_number};
+use crate::read::Words;
+use std::num::f64_from_bits_with_nan;
 
-// How a list went: that many items, and the cursor past them.
-#[derive(Clone, Copy)]
-pub enum Listed {
-    Got(usize, Cursor),
-    Bad,
+// What a list holds: each item is read as a number.
+pub trait Item: Copy {
+    ghost item: { ℕ → Self };
+
+    fn of(number: u64) -> Self
+        ensures { result ≡ item number };
+}
+
+impl Item for u64 {
+    ghost item = { λ v. v };
+
+    fn of(number: u64) -> u64 {
+        number
+    }
+}
+
+// A double by its pattern.
+impl Item for f64 {
+    ghost item = { of_bits binary64 };
+
+    fn of(number: u64) -> f64 {
+        f64_from_bits_with_nan(number)
+    }
 }
 
 // Room for any list.
@@ -27,81 +46,37 @@ pub fn double_buffer() -> [f64; 4096]
     [0.0; 4096]
 }
 
-fn next_size(s: &[u8], c: Cursor) -> Next
-    requires { c.at ≤ length s.now }
-    ensures { ReadBy size s.now c (next_of result) }
-{
-    let Next::Is(n, d) = next_number(s, c) else {
-        return Next::No;
-    };
-    if 4096 < n {
-        return Next::No;
-    }
-    Next::Is(n, d)
-}
-
-// n numbers.
-fn fill_numbers(s: &[u8], c: Cursor, n: u64, into: &mut [u64]) -> Listed
-    requires { (c.at ≤ length s.now) × (n ≤ length into.old) }
-    ensures { ListBy (items (λ v. v) n) n s.now c into.new result }
-{
-    let count = n as usize;
-    let mut at = c.at;
-    let mut k = 0;
-    while k < count {
-        match next_number(s, Cursor { at }) {
-            Next::Is(v, d) => {
-                into[k] = v;
-                at = d.at;
-            }
-            Next::No => {
-                return Listed::Bad;
-            }
+impl<'a> Words<'a> {
+    // As many items as there is room for.
+    #[tactic(auto, using(crate::proofs::list::Laws::fill_start, crate::proofs::list::Laws::fill_none, crate::proofs::list::Laws::fill_end))]
+    pub fn fill<T: Item>(&mut self, into: &mut [T]) -> Option<()>
+        ensures { ReadBy (items T.item (length into.old)) self.old (option_map (λ _. into.new) result) self.new }
+    {
+        for k in 0..into.len() {
+            into[k] = T::of(self.next_number()?);
         }
-        k += 1;
+        Some(())
     }
-    Listed::Got(k, Cursor { at })
-}
 
-pub fn numbers(s: &[u8], c: Cursor, into: &mut [u64; 4096]) -> Listed
-    requires { c.at ≤ length s.now }
-    ensures { ListBy (list (λ v. v)) 4096 s.now c into.new result }
-{
-    let Next::Is(n, d) = next_size(s, c) else {
-        return Listed::Bad;
-    };
-    fill_numbers(s, d, n, into)
-}
-
-// n doubles.
-pub fn fill_doubles(s: &[u8], c: Cursor, n: u64, into: &mut [f64]) -> Listed
-    requires { (c.at ≤ length s.now) × (n ≤ length into.old) }
-    ensures { ListBy (items (of_bits binary64) n) n s.now c into.new result }
-{
-    let count = n as usize;
-    let mut at = c.at;
-    let mut k = 0;
-    while k < count {
-        match next_number(s, Cursor { at }) {
-            Next::Is(v, d) => {
-                into[k] = double_of(v);
-                at = d.at;
-            }
-            Next::No => {
-                return Listed::Bad;
-            }
+    #[tactic(auto, unfolding(crate::specs::List::size))]
+    fn size(&mut self) -> Option<usize>
+        ensures { ReadBy size self.old result self.new × IfSome result (λ n. n ≤ 4096) }
+    {
+        let n = self.next_number()?;
+        if 4096 < n {
+            return None;
         }
-        k += 1;
+        Some(n as usize)
     }
-    Listed::Got(k, Cursor { at })
-}
 
-pub fn doubles(s: &[u8], c: Cursor, into: &mut [f64; 4096]) -> Listed
-    requires { c.at ≤ length s.now }
-    ensures { ListBy (list (of_bits binary64)) 4096 s.now c into.new result }
-{
-    let Next::Is(n, d) = next_size(s, c) else {
-        return Listed::Bad;
-    };
-    fill_doubles(s, d, n, into)
+    // A list, and how many items it has.
+    #[tactic(auto, unfolding(crate::specs::List::list))]
+    pub fn list<T: Item>(&mut self, into: &mut [T]) -> Option<usize>
+        requires { 4096 ≤ length into.old }
+        ensures { ListBy (list T.item) self.old into.new result self.new }
+    {
+        let n = self.size()?;
+        self.fill(&mut into[..n])?;
+        Some(n)
+    }
 }

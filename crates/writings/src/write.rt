@@ -5,7 +5,7 @@ ghost use Rattle.writings.specs.Write.{outcome_text, all_are, workspace_text, fr
 
 use calls::position::Outcome;
 use replies::put_refused;
-use words::write::{put, put_doubles, put_numbers};
+use words::write::{put, put_list};
 
 fn put_outcome(text: &mut [u8], at: usize, o: Outcome) -> usize
     requires { at + 45 ≤ length text.old }
@@ -14,7 +14,7 @@ fn put_outcome(text: &mut [u8], at: usize, o: Outcome) -> usize
     match o {
         Outcome::Open => put(text, at, b"open - -"),
         Outcome::Accepted => put(text, at, b"accepted - -"),
-        Outcome::Refused(number, p) => put_refused(text, at, number, p),
+        Outcome::Refused(r) => put_refused(text, at, r),
     }
 }
 
@@ -22,20 +22,10 @@ fn put_outcome(text: &mut [u8], at: usize, o: Outcome) -> usize
 fn all_are(s: &[f64], bits: u64) -> bool
     ensures { result ≡ all_are bits s.now }
 {
-    let mut i = 0;
-    while i < s.len() {
-        let x = s[i];
-        if x != x {
-            return false;
-        }
-        if f64::to_bits(x) != bits {
-            return false;
-        }
-        i += 1;
-    }
-    true
+    s.iter().all(|x| !x.is_nan() && x.to_bits() == bits)
 }
 
+#[tactic(auto, unfolding(crate::specs::Write::workspace_text))]
 fn put_workspace(text: &mut [u8], at: usize, ws: &[f64]) -> usize
     requires { at + 7 ≤ length text.old }
     ensures { (at ≤ result) × (result ≤ at + 7) × (take result text.new ≡ take at text.old ++ workspace_text ws.now) }
@@ -56,7 +46,7 @@ fn put_front(text: &mut [u8], at: usize, o: Outcome, counts: &[u64]) -> usize
 {
     let a = put_outcome(text, at, o);
     let b = put(text, a, b" | ");
-    let c = put_numbers(text, b, counts);
+    let c = put_list(text, b, counts);
     put(text, c, b" | ")
 }
 
@@ -67,7 +57,7 @@ fn put_back(text: &mut [u8], at: usize, ws: &[f64], out: &[f64]) -> usize
 {
     let a = put_workspace(text, at, ws);
     let b = put(text, a, b" | ");
-    let c = put_doubles(text, b, out);
+    let c = put_list(text, b, out);
     put(text, c, b"\n")
 }
 
@@ -93,6 +83,6 @@ pub fn put_plain(text: &mut [u8], at: usize, o: Outcome, out: &[f64]) -> usize
 {
     let a = put_outcome(text, at, o);
     let b = put(text, a, b" | ");
-    let c = put_doubles(text, b, out);
+    let c = put_list(text, b, out);
     put(text, c, b"\n")
 }

@@ -8,9 +8,10 @@ use native.Mathlib.Nat.{eq-or-lt_of_le}
 use native.Mathlib.Omega.{arith}
 use borrow.Author.Tests.{eqb-true, eqb-false, eq-eqb, ne_eqb}
 use lib.Dec.{eqb}
-use Rattle.refusals.specs.declared.Place.{Place}
-use Rattle.refusals.specs.declared.Place.TheVariants.{At, Nothing}
-use Rattle.refusals.proofs.Searches.{Looks, looks-past, lowest-some, lowest-none}
+use Rattle.std.proofs.lemmas.Bool.{cases_lt}
+use Rattle.std.specs.Option.{MatchOption}
+use Rattle.std.specs.Prelude.{Option, Some, None}
+use Rattle.refusals.proofs.Searches.{looks-hit, looks-last, looks-past, lowest-some, lowest-none}
 use Rattle.arm.specs.Joint.{is_fixed}
 use Rattle.arm.specs.Model.{kind_of}
 use Rattle.arm.specs.Topology.{actives_of, holds_of, active_joint, Numbered}
@@ -41,9 +42,15 @@ module _ (kinds : List ℕ) where
       go false e = refl
 
   -- so the search may begin there
-  pub begins : (n k : ℕ) → k ≤ n → Looks (holds_of kinds k) n (active_joint kinds n k) k
+  clear : (k n : ℕ) → ((j : ℕ) → k ≤ j → j < n → holds_of kinds k j ≡ false) → (j : ℕ) → j < n → holds_of kinds k j ≡ false
+  clear k n f j h = ⊎_elim (not-below k j) (λ g. f j g h) (cases_lt j k)
+
+  pub searched : (n k : ℕ) (r : Option ℕ)
+      → MatchOption r ((j : ℕ) → k ≤ j → j < n → holds_of kinds k j ≡ false) (λ i. (k ≤ i) × (i < n) × (holds_of kinds k i ≡ true) × ((j : ℕ) → k ≤ j → j < i → holds_of kinds k j ≡ false))
+      → r ≡ active_joint kinds n k
   unfolding active_joint
-  begins n k h = looks-past (holds_of kinds k) n k h (not-below k)
+  searched n k None f = looks-last (holds_of kinds k) n _ n (looks-past (holds_of kinds k) n n (omega arith) (clear k n f)) (omega arith)
+  searched n k (Some i) (a, b, e, f) = looks-hit (holds_of kinds k) n _ i (looks-past (holds_of kinds k) n i (omega arith) (clear k i f)) b e
 
   -- each number below the count is some joint's
   has-joint : (n k : ℕ) → k < actives_of kinds n → (j : ℕ) × Numbered kinds n k j
@@ -62,7 +69,7 @@ module _ (kinds : List ℕ) where
           (λ less. lower (below less)) (eq-or-lt_of_le (omega arith))
 
   -- what the search finds has the number
-  pub found-is : (n k j : ℕ) → active_joint kinds n k ≡ At j → Numbered kinds n k j
+  pub found-is : (n k j : ℕ) → active_joint kinds n k ≡ Some j → Numbered kinds n k j
   unfolding active_joint
   found-is n k j e =
       let s = lowest-some (holds_of kinds k) n j e in
@@ -70,12 +77,12 @@ module _ (kinds : List ℕ) where
       record { joint = s.1; active = h.0; number = h.1 }
 
   -- EVERY ACTIVE NUMBER IS FOUND: for each k below a the search finds its joint
-  pub numbered : (n k : ℕ) → k < actives_of kinds n → (j : ℕ) × (active_joint kinds n k ≡ At j) × Numbered kinds n k j
+  pub numbered : (n k : ℕ) → k < actives_of kinds n → (j : ℕ) × (active_joint kinds n k ≡ Some j) × Numbered kinds n k j
   unfolding active_joint
   numbered n k h = go (active_joint kinds n k) refl
     where
-      go : (r : Place) → active_joint kinds n k ≡ r → (j : ℕ) × (r ≡ At j) × Numbered kinds n k j
-      go (At j) e = (j, refl, found-is n k j e)
-      go Nothing e =
+      go : (r : Option ℕ) → active_joint kinds n k ≡ r → (j : ℕ) × (r ≡ Some j) × Numbered kinds n k j
+      go (Some j) e = (j, refl, found-is n k j e)
+      go None e =
           let (j, s) = has-joint n k h in
           absurd (true≢false (sym (holds-it k j s.active s.number) ∙ lowest-none (holds_of kinds k) n e j s.joint))

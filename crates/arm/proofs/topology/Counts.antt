@@ -39,3 +39,6 @@ module _ (kinds : List ℕ) where
   actives-below n j h f =
       let e : j + 1 + (n - (j + 1)) ≡ n = omega arith in
       omega (arith, actives-active j f, rw e at (actives-mono (j + 1) (n - (j + 1))))
+
+-- the bounds on an active number
+pub ruleset bounds = (actives-le, actives-below)

@@ -1,19 +1,7 @@
-use mathlib.Core.Path.{◌≡◌}
-use native.Mathlib.Numerals.{add-one}
-use native.Mathlib.Omega.{arith}
-use Rattle.numbers.specs.Sum.{sum_to}
+use Rattle.std.proofs.Common.{◌≡◌, arith}
 use Rattle.base_solve.specs.BaseSolve.{column_sum}
-use borrow.Author.Rules.{rules}
 use Rattle.base_solve.proofs.column_sum.Goals as goal
-
-pub loop-k-init : goal.loop-k-init
-unfolding sum_to
-loop-k-init c = (search rules, c.abs-s.ensures)
-
-pub loop-k-preserved : goal.loop-k-preserved
-unfolding sum_to
-loop-k-preserved c = (search rules, rw (c.abs-s-in-loop-k.ensures, add-one c.loop-k.k, c.loop-k.invariant.1))
 
 pub returns : goal.returns
 unfolding column_sum
-returns c = let e : c.loop-k.k ≡ 5 = omega arith in rw (c.loop-k.invariant.1, e)
+returns c = let e : c.loop-k.k ≡ 6 = omega arith in rw (c.loop-k.invariant, e)

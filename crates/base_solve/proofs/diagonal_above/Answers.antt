@@ -1,18 +1,16 @@
-use mathlib.Core.Path.{◌≡◌, refl, ap, ◌∙◌}
-use Prim.Native.Nat.{ℕ}
-use native.Mathlib.Numerals.{add-one}
-use native.Mathlib.Omega.{arith}
+use Rattle.std.proofs.Common.{ℕ, not, refl, rules}
+use Rattle.std.proofs.Math.Bool.{and_assoc, and-true, true-and}
+use Rattle.std.proofs.lemmas.Iterator.{YieldsList-from_range}
+use Rattle.std.proofs.lemmas.Iterator.Search.{all_from_yields_List}
+use borrow.Author.Tests.{tests}
+use lib.Ieee.{le}
+use Rattle.numbers.specs.Double.{0·0}
+use Rattle.mat6.specs.Mat6.{cell}
 use Rattle.base_solve.specs.BaseSolve.{above_to}
-use borrow.Author.Rules.{rules}
 use Rattle.base_solve.proofs.diagonal_above.Goals as goal
 
-pub loop-k-init : goal.loop-k-init
-unfolding above_to
-loop-k-init c = (search rules, refl)
-
-pub loop-k-preserved : goal.loop-k-preserved
-unfolding above_to
-loop-k-preserved c = (search rules, rw (add-one c.loop-k.k, c.both-ok.ensures, c.loop-k.invariant.1))
-
 pub returns : goal.returns
-returns c = let e : c.loop-k.k ≡ 6 = omega arith in c.loop-k.invariant.1 ∙ ap (λ (k : ℕ). above_to c.args.a.now k) e
+unfolding above_to
+returns c =
+    let e = all_from_yields_List (λ (k : ℕ). not (le (cell c.args.a.now k k) 0·0)) _ _ c.all.result c.all.ensures.ran (YieldsList-from_range 0 6 6 refl refl) (λ x b q k. search (rules, tests)) in
+    rw e (simp (true-and, and-true, and_assoc))

@@ -1,10 +1,6 @@
-use mathlib.Core.Path.{◌≡◌}
-use Prim.Native.Nat.{◌-◌, ◌≤◌}
+use Rattle.std.proofs.Common.{◌≡◌, Some}
 use Rattle.base_solve.specs.BaseSolve.{inverse_to}
 use Rattle.base_solve.proofs.inverse_norm.Given as goal
 
-abbrev pub invariant-loop-k : goal.invariant-loop-k
-invariant-loop-k l = (l.k ≤ 6) × (l.f ≡ inverse_to l.l l.k)
-
-abbrev pub decreases-loop-k : goal.decreases-loop-k
-decreases-loop-k l = 6 - l.k
+abbrev pub invariant-loop-j : goal.invariant-loop-j
+invariant-loop-j l = Some l.top ≡ inverse_to l.l l.j

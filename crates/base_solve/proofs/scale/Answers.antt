@@ -1,16 +1,10 @@
-use mathlib.Core.Path.{refl}
-use Prim.Native.Nat.{zero-le}
-use Rattle.numbers.proofs.Filled.{none, more, full}
-use Rattle.base_solve.specs.BaseSolve.{scale_of}
-use Rattle.base_solve.proofs.scale.Invariants.{scale_at}
+use Rattle.std.proofs.Common.{rules}
+use Rattle.numbers.proofs.Made.{made}
+use Rattle.mat6.specs.Mat6.{cell}
+use Rattle.square_root.specs.SquareRoot.{root_of}
+use Rattle.base_solve.specs.BaseSolve.{root_or, scale_of}
 use Rattle.base_solve.proofs.scale.Goals as goal
-
-pub loop-t-init : goal.loop-t-init
-loop-t-init c = none (scale_at c.args.a.now) 6 _ refl zero-le
-
-pub loop-t-preserved : goal.loop-t-preserved
-loop-t-preserved c = more (scale_at c.args.a.now) 6 c.loop-t.m c.loop-t.t c.sqrt-x.result c.loop-t.invariant c.loop-t-test.true c.sqrt-x.ensures
 
 pub returns : goal.returns
 unfolding scale_of
-returns c = full (scale_at c.args.a.now) 6 c.loop-t.m c.loop-t.t c.loop-t.invariant c.loop-t-test.false
+returns c = made _ (λ t. root_or (root_of (cell c.args.a.now t t))) _ (λ i q y k. search rules) _ _ c.from_fn.ensures.items

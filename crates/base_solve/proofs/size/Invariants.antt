@@ -1,13 +1,8 @@
-use mathlib.Core.Path.{◌≡◌}
-use Prim.Native.Nat.{suc, ◌-◌, ◌≤◌}
-use lib.ListN.{get_or}
+use Rattle.std.proofs.Common.{◌≡◌, get_or}
 use lib.Ieee.{nan}
 use Rattle.numbers.specs.Double.{abs_of}
 use Rattle.numbers.specs.Sum.{sum_to}
 use Rattle.base_solve.proofs.size.Given as goal
 
 abbrev pub invariant-loop-k : goal.invariant-loop-k
-invariant-loop-k l = (l.k ≤ 5) × (l.s ≡ sum_to (λ i. abs_of (get_or l.v i nan)) (suc l.k))
-
-abbrev pub decreases-loop-k : goal.decreases-loop-k
-decreases-loop-k l = 5 - l.k
+invariant-loop-k l = l.s ≡ sum_to (λ i. abs_of (get_or l.v i nan)) l.k

@@ -1,11 +1,14 @@
-use lib.Ieee.{div, of_bits}
+use Rattle.std.proofs.Common.{◌≡◌, refl, ap, ◌∙◌, Option, Some, None}
+use Rattle.std.specs.Option.{unwrap_or}
+use lib.Ieee.{Float, of_bits, binary64}
 use Rattle.base_solve.specs.BaseSolve.{root_or}
 use Rattle.base_solve.proofs.sqrt.Goals as goal
 
-pub returns-in-Is : goal.returns-in-Is
-unfolding root_or
-returns-in-Is c = rw (← c.sqrt-s.ensures.0, c.in-Is.is)
+-- the code's NaN is the definition's
+same : (r : Option Float) → unwrap_or r (of_bits binary64 9221120237041090560) ≡ root_or r
+unfolding root_or of_bits
+same None = refl
+same (Some x) = refl
 
-pub returns-in-No : goal.returns-in-No
-unfolding root_or div of_bits
-returns-in-No c = rw (← c.sqrt-s.ensures.0, c.in-No.is)
+pub returns : goal.returns
+returns c = c.unwrap_or.ensures ∙ same c.sqrt.result ∙ ap root_or c.sqrt.ensures.0

@@ -9,7 +9,7 @@ use lib.ListN.{length, get_or}
 use lib.Ieee.{Float, lt, nan}
 use Rattle.numbers.specs.Double.{0·0}
 use Rattle.numbers.proofs.Tables.{get_or-tab}
-use Rattle.refusals.specs.declared.Verdict.TheVariants.{Fine}
+use Rattle.refusals.specs.Refusals.{fine}
 use Rattle.arm.specs.Model.{link_of}
 use Rattle.builder.specs.Checks.{bad_mass}
 use Rattle.builder.specs.Build.{double_slots, model_of, built_of}
@@ -21,7 +21,7 @@ unfolding double_slots
 slot_kept s size t h g = get_or-tab _ nan size t h ∙ simp (lt-ltb _ _ g)
 
 -- none is below zero
-pub no-mass-below-zero : (n : ℕ) (parents kinds : List ℕ) (origins axes links rotors : List Float) → (built_of n parents kinds origins axes links rotors).verdict ≡ Fine → (l : ℕ) → l ≤ n
+pub no-mass-below-zero : (n : ℕ) (parents kinds : List ℕ) (origins axes links rotors : List Float) → (built_of n parents kinds origins axes links rotors).verdict ≡ fine → (l : ℕ) → l ≤ n
     → bad_mass (built_of n parents kinds origins axes links rotors).model.links l ≡ false
 unfolding built_of model_of bad_mass link_of
 no-mass-below-zero n parents kinds origins axes links rotors e l h =

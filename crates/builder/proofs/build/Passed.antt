@@ -3,18 +3,17 @@ use mathlib.Core.Bool.{false}
 use mathlib.Core.List.{List}
 use mathlib.Core.Path.{◌≡◌}
 use Prim.Native.Nat.{ℕ, ◌+◌, ◌<◌}
-use borrow.Author.Tests.{ltb-false, not-false}
+use borrow.Author.Tests.{ltb-false}
 use lib.Dec.{ltb}
 use lib.ListN.{length}
 use lib.Ieee.{Float}
-use Rattle.refusals.specs.Refusals.{lowest, named_of, plain_of, or_else}
-use Rattle.refusals.specs.declared.Verdict.TheVariants.{Fine}
+use Rattle.refusals.specs.Refusals.{fine, lowest, named_of, plain_of, or_else}
 use Rattle.refusals.proofs.Searches.{lowest-none}
-use Rattle.refusals.proofs.Verdicts.{named-fine, plain-fine, both-fine}
+use Rattle.refusals.proofs.Verdicts.{named-fine, both-fine}
 use Rattle.arm.specs.Model.{bad_parent, bad_kind}
 use Rattle.builder.specs.Checks.{Sized, bad_axis, bad_row, bad_numbers, bad_rotation, bad_mass, bad_rotor, lists_verdict, verdict_of}
 use Rattle.builder.specs.Build.{Listed}
-use Rattle.builder.proofs.checks.Lengths.{sized-true}
+use Rattle.builder.proofs.checks.Lengths.{sized-passed}
 
 -- no joint or link is refused
 pub record Passed (n : ℕ) (parents kinds : List ℕ) (origins axes links rotors : List Float) : Type 0 where
@@ -24,15 +23,14 @@ pub record Passed (n : ℕ) (parents kinds : List ℕ) (origins axes links rotor
   pub mass : (l : ℕ) → l < n + 1 → bad_mass links l ≡ false
   pub rotor : (j : ℕ) → j < n → bad_rotor kinds rotors j ≡ false
 
-module _ (n : ℕ) (parents kinds : List ℕ) (origins axes links rotors : List Float) (e : verdict_of n parents kinds origins axes links rotors ≡ Fine) where
+module _ (n : ℕ) (parents kinds : List ℕ) (origins axes links rotors : List Float) (e : verdict_of n parents kinds origins axes links rotors ≡ fine) where
   -- 1 and 2, and what comes behind them
-  pub sized : Sized n (length parents) (length kinds) (length origins) (length axes) (length links) (length rotors) × (lists_verdict n parents kinds origins axes links rotors ≡ Fine)
+  pub sized : Sized n (length parents) (length kinds) (length origins) (length axes) (length links) (length rotors) × (lists_verdict n parents kinds origins axes links rotors ≡ fine)
   unfolding verdict_of
   sized =
       let v1 = both-fine (plain_of 1 (ltb 32 n)) _ e in
       let v2 = both-fine (plain_of 2 _) (lists_verdict n parents kinds origins axes links rotors) v1.1 in
-      let few = ltb-false 32 n (plain-fine 1 _ v1.0) in
-      (sized-true n (length parents) (length kinds) (length origins) (length axes) (length links) (length rotors) few (not-false _ (plain-fine 2 _ v2.0)), v2.1)
+      (sized-passed n (length parents) (length kinds) (length origins) (length axes) (length links) (length rotors) v1.0 v2.0, v2.1)
 
   -- 3 to 8 and 26
   pub passed : Passed n parents kinds origins axes links rotors

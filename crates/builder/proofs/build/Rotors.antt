@@ -7,11 +7,11 @@ use Prim.Native.Nat.{ℕ, ◌<◌, ◌≤◌}
 use native.Mathlib.Omega.{arith}
 use borrow.Author.Tests.{lt-ltb, le-ltb, eq-eqb, ne_eqb, not-false}
 use lib.Dec.{ltb}
+use Rattle.std.proofs.lemmas.Bool.{or_parts}
 use lib.Ieee.{Float, lt, nan}
 use Rattle.numbers.specs.Double.{0·0, finite}
 use Rattle.numbers.proofs.Tables.{get_or-tab}
-use Rattle.refusals.specs.declared.Verdict.TheVariants.{Fine}
-use Rattle.refusals.proofs.Flags.{neither}
+use Rattle.refusals.specs.Refusals.{fine}
 use Rattle.arm.specs.Model.{kind_of, rotor_of}
 use Rattle.builder.specs.Checks.{bad_row, rotor_is, bad_numbers, bad_rotor}
 use Rattle.builder.specs.Build.{slot_by, rotor_slot, rotor_slots, model_of, built_of}
@@ -25,7 +25,7 @@ either_way false x = refl
 active-false : (test : Float → Bool) (kinds : List ℕ) (rotors : List Float) (j : ℕ) → (kind_of kinds j ≡ 2 → ⊥) → rotor_is test kinds rotors j ≡ false → test (rotor_of rotors j) ≡ false
 active-false test kinds rotors j f e = simp (ne_eqb (kind_of kinds j) 2 f) at e
 
-module _ (n : ℕ) (parents kinds : List ℕ) (origins axes links rotors : List Float) (e : (built_of n parents kinds origins axes links rotors).verdict ≡ Fine) (j : ℕ) where
+module _ (n : ℕ) (parents kinds : List ℕ) (origins axes links rotors : List Float) (e : (built_of n parents kinds origins axes links rotors).verdict ≡ fine) (j : ℕ) where
   slot : j < 32 → rotor_of (built_of n parents kinds origins axes links rotors).model.rotors j ≡ slot_by 0·0 n (rotor_slot kinds rotors) j
   unfolding built_of model_of rotor_slots
   slot h = simp e (get_or-tab (slot_by 0·0 n (rotor_slot kinds rotors)) nan 32 j h)
@@ -45,7 +45,7 @@ module _ (n : ℕ) (parents kinds : List ℕ) (origins axes links rotors : List 
     pub rotor-finite : finite (rotor_of (built_of n parents kinds origins axes links rotors).model.rotors j) ≡ true
     unfolding built_of bad_numbers
     rotor-finite =
-        let numbers = neither (bad_row 7 origins j) _ ((passed n parents kinds origins axes links rotors e).numbers j h) in
+        let numbers = or_parts (bad_row 7 origins j) _ ((passed n parents kinds origins axes links rotors e).numbers j h) in
         ap finite rotor-kept ∙ not-false _ (active-false (λ x. not (finite x)) kinds rotors j f numbers.1)
 
     -- and not below zero

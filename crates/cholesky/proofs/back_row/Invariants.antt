@@ -1,6 +1,4 @@
-use mathlib.Core.Path.{◌≡◌}
-use Prim.Native.Nat.{◌+◌, ◌-◌, ◌≤◌}
-use lib.ListN.{get_or}
+use Rattle.std.proofs.Common.{◌≡◌, ◌+◌, ◌-◌, get_or}
 use lib.Ieee.{nan}
 use Rattle.numbers.specs.Double.{◌⊗◌}
 use Rattle.numbers.specs.Sum.{less_to}
@@ -8,7 +6,4 @@ use Rattle.mat6.specs.Mat6.{cell}
 use Rattle.cholesky.proofs.back_row.Given as goal
 
 abbrev pub invariant-loop-k : goal.invariant-loop-k
-invariant-loop-k l = (l.k ≤ 5 - l.i) × (l.x ≡ less_to (get_or l.b l.i nan) (λ t. cell l.l (l.i + 1 + t) l.i ⊗ get_or l.b (l.i + 1 + t) nan) l.k)
-
-abbrev pub decreases-loop-k : goal.decreases-loop-k
-decreases-loop-k l = 5 - l.i - l.k
+invariant-loop-k l = l.x ≡ less_to (get_or l.b l.i nan) (λ t. cell l.l (l.i + 1 + t) l.i ⊗ get_or l.b (l.i + 1 + t) nan) (l.k - (l.i + 1))

@@ -1,10 +1,6 @@
-use mathlib.Core.Path.{◌≡◌}
-use Prim.Native.Nat.{◌-◌, ◌≤◌}
+use Rattle.std.proofs.Common.{◌≡◌, ◌+◌, ◌-◌}
 use Rattle.cholesky.specs.Cholesky.{below_to}
 use Rattle.cholesky.proofs.below.Given as goal
 
-abbrev pub invariant-loop-n : goal.invariant-loop-n
-invariant-loop-n l = (l.n ≤ 5 - l.j) × (l.l ≡ below_to l.initial.l l.j l.r l.n)
-
-abbrev pub decreases-loop-n : goal.decreases-loop-n
-decreases-loop-n l = 5 - l.j - l.n
+abbrev pub invariant-loop-i : goal.invariant-loop-i
+invariant-loop-i l = l.l ≡ below_to l.initial.l l.j l.r (l.i - (l.j + 1))

@@ -1,18 +1,18 @@
-use mathlib.Core.Path.{◌≡◌, refl, ap, ◌∙◌}
-use Prim.Native.Nat.{ℕ}
-use native.Mathlib.Numerals.{add-one}
-use native.Mathlib.Omega.{arith}
+use Rattle.std.proofs.Common.{◌≡◌, ◌+◌, ◌-◌, ℕ, zero, suc, false, List, arith}
+use lib.Ieee.{Float}
 use Rattle.cholesky.specs.Cholesky.{cholesky_to}
-use borrow.Author.Rules.{rules}
 use Rattle.cholesky.proofs.cholesky.Goals as goal
 
-pub loop-j-init : goal.loop-j-init
+-- once a column failed, those after it change nothing
+stopped : (a l : List Float) (n k : ℕ) → (false, l) ≡ cholesky_to a n → (false, l) ≡ cholesky_to a (k + n)
 unfolding cholesky_to
-loop-j-init c = (search rules, refl)
+stopped a l n zero e = let z : 0 + n ≡ n = omega arith in rw z e
+stopped a l n (suc k) e = let z : suc k + n ≡ suc (k + n) = omega arith in rw (z, ← stopped a l n k e)
 
-pub loop-j-preserved : goal.loop-j-preserved
+pub returns-then-not-column : goal.returns-then-not-column
 unfolding cholesky_to
-loop-j-preserved c = (search rules, c.advance-ok.ensures ∙ rw (add-one c.loop-j.j, ← c.loop-j.invariant.1))
-
-pub returns : goal.returns
-returns c = let e : c.loop-j.j ≡ 6 = omega arith in c.loop-j.invariant.1 ∙ ap (λ (k : ℕ). cholesky_to c.args.l.now k) e
+returns-then-not-column c =
+    let j = c.loop-j.j in
+    let failed : (false, c.column.new.l) ≡ cholesky_to c.args.l.now (suc j) = rw (← c.loop-j.invariant) c.if-not-column.ensures in
+    let all : 5 - j + suc j ≡ 6 = omega arith in
+    rw all at (stopped c.args.l.now c.column.new.l (suc j) (5 - j) failed)

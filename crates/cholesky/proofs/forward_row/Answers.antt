@@ -1,19 +1,7 @@
-use mathlib.Core.Path.{◌≡◌, refl}
-use native.Mathlib.Numerals.{add-one}
-use native.Mathlib.Omega.{arith}
-use Rattle.numbers.specs.Sum.{less_to}
+use Rattle.std.proofs.Common.{◌≡◌, arith}
 use Rattle.cholesky.specs.Cholesky.{forward_row}
-use borrow.Author.Rules.{rules}
 use Rattle.cholesky.proofs.forward_row.Goals as goal
-
-pub loop-k-init : goal.loop-k-init
-unfolding less_to
-loop-k-init c = (search rules, refl)
-
-pub loop-k-preserved : goal.loop-k-preserved
-unfolding less_to
-loop-k-preserved c = (search rules, rw (add-one c.loop-k.k, c.loop-k.invariant.1))
 
 pub returns : goal.returns
 unfolding forward_row
-returns c = let e : c.loop-k.k ≡ c.args.i = omega arith in rw (c.loop-k.invariant.1, e)
+returns c = let e : c.loop-k.k ≡ c.args.i = omega arith in rw (c.loop-k.invariant, e)

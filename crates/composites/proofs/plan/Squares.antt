@@ -8,3 +8,5 @@ square row column side h g = omega (arith, suc-mul column side, mul-le-mul_right
 
 pub small-square : (side : ℕ) → side ≤ 38 → side * side ≤ 1444
 small-square side h = omega (arith, mul-le-mul_left side h)
+
+pub ruleset squares = (square, small-square)

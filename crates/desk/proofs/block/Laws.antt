@@ -3,10 +3,10 @@ use mathlib.Core.Path.{◌≡◌, refl, ap, ◌∙◌}
 use mathlib.Core.Bool.{Bool, true, false}
 use mathlib.Core.List.{List, [], ◌∷◌, ◌++◌, append_assoc}
 use Prim.Native.Nat.{ℕ, suc, ◌+◌, ◌≤◌, ◌<◌}
+use native.Mathlib.Numerals.{one-add}
 use native.Mathlib.Omega.{arith}
 use lib.ListN.{length, drop, length-drop, drop_of_length-le}
 use lib.Seq.{drop-drop}
-use Rattle.words.specs.Read.{run_of}
 use Rattle.words.specs.Line.{in_line, line_step, line_of, before_of}
 use Rattle.arm.specs.declared.model.Model.{Model}
 use Rattle.replies.specs.Replies.{behind}
@@ -26,19 +26,19 @@ Ends s l =
     (answers_of s l ≡ e.0 ++ answers_of (new_line e.1) rest) × (left_of s l ≡ left_of (new_line e.1) rest)
 
 ends : (s : State) (l : List ℕ) → before_of l < length l → Ends s l
-unfolding Ends answers_of left_of line_of run_of
+unfolding Ends answers_of left_of line_of
 ends s [] h = absurd (omega arith)
 ends s (b ∷ l) h = go (in_line b) refl (ends (s.0, line_step s.1 b) l)
   where
     go : (q : Bool) → in_line b ≡ q → (before_of l < length l → Ends (s.0, line_step s.1 b) l) → Ends s (b ∷ l)
-    go true e r = rw e (r (omega (arith, rw e at h)))
+    go true e r = rw (e, one-add) (r (omega (arith, rw e at h)))
     go false e r = rw e (refl, refl)
 
 Goes : State → List ℕ → Type 0
 Goes s l = (answers_of s l ≡ []) × (left_of s l ≡ gathered s l)
 
 goes : (s : State) (l : List ℕ) → length l ≤ before_of l → Goes s l
-unfolding Goes answers_of left_of line_of run_of
+unfolding Goes answers_of left_of line_of
 goes s [] h = (refl, refl)
 goes s (b ∷ l) h = go (in_line b) refl (goes (s.0, line_step s.1 b) l)
   where

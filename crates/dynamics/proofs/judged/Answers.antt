@@ -1,7 +1,10 @@
+use Rattle.mass_matrix.proofs.Ready as matrix
+use Rattle.forward_dynamics.proofs.Ready as forward
+use Rattle.dynamics.proofs.Works.{on_fine}
 use Rattle.dynamics.proofs.judged.Goals as goal
 
-pub returns-in-Matrix : goal.returns-in-Matrix
-returns-in-Matrix c = rw (c.in-Matrix.is, ← c.floats.ensures, ← c.rotation-r.ensures) c.judged.ensures
+pub returns-in-Matrix-clause-good : goal.returns-in-Matrix-clause-good
+returns-in-Matrix-clause-good c = on_fine c.judged.ensures (matrix.passed-good _ _ _ _ _ _ _ _)
 
-pub returns-in-Forward : goal.returns-in-Forward
-returns-in-Forward c = rw (c.in-Forward.is, ← c.floats-in-Forward.ensures, ← c.rotation-rotation.ensures, ← c.base-base.ensures) c.judged-in-Forward.ensures
+pub returns-in-Forward-clause-good : goal.returns-in-Forward-clause-good
+returns-in-Forward-clause-good c = on_fine c.judged-in-Forward.ensures (forward.passed-good _ _ _ _ _ _ _ _ _)

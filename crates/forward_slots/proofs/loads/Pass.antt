@@ -142,9 +142,6 @@ module _ (n : ℕ) (loaded : List ℕ) (loads ws₀ : List Float) where
       (g.rooted, g.placed ∙ ap (put_loads all n) (e ∙ loads-put [] [] n ws) ∙ put-again all (load_of [] []) n ws ∙ sym (loads-put loaded loads n ws))
 
   module _ (k : ℕ) (root : Wrench) (any : List Bool) (ws : List Float) (g : Gathered n loaded loads ws₀ k root any ws) where
-    pub length-gathered : length ws ≡ length ws₀
-    length-gathered = ap length g.placed ∙ length-put (load_to loaded loads k) n ws₀
-
     -- a load on a link that the arm does not have
     pub passed-by : n < get_or loaded k 0 → Gathered n loaded loads ws₀ (suc k) root any ws
     passed-by h =

@@ -1,18 +1,18 @@
 use mathlib.Core.Path.{◌≡◌, sym, ◌∙◌, subst}
+use Rattle.std.specs.Prelude.{Some}
 use mathlib.Core.Bool.{true}
 use lib.Dec.{T}
 use lib.Ieee.{Float}
 use Rattle.numbers.specs.Double.{◌⊗◌, 0·5}
 use Rattle.half_turn.specs.declared.Turns.{Turns}
 use Rattle.half_turn.specs.declared.SinCos.{SinCos}
-use Rattle.half_turn.specs.declared.HalfTurn.TheVariants.{Of}
 use Rattle.half_turn.specs.HalfTurn.{K, turns_of, in_range, reduced_of, series_of, placed_of, sin_cos_by, sin_cos_of, half_turn_of, HalfTurnIs}
 use Rattle.half_turn.proofs.Bound.{quarters-small}
 use Rattle.half_turn.proofs.half_turn.Goals as goal
 
 -- what the four calls ensure, put together
 glue : (q r : Float) (t : Turns) (s p : SinCos) → in_range q ≡ true → t ≡ turns_of (q ⊗ 0·5 ⊗ K) → r ≡ reduced_of q (q ⊗ 0·5) t.whole
-    → s ≡ series_of r → p ≡ placed_of s t.quarter → (Of p ≡ half_turn_of q) × HalfTurnIs q (Of p)
+    → s ≡ series_of r → p ≡ placed_of s t.quarter → (Some p ≡ half_turn_of q) × HalfTurnIs q (Some p)
 unfolding half_turn_of sin_cos_of sin_cos_by HalfTurnIs turns_of
 glue q r t s p h a b d e = (rw (h, e, d, b, a), (h, rw (e, d, b, a)))
 

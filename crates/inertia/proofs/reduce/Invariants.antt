@@ -1,11 +1,11 @@
-use mathlib.Core.Path.{◌≡◌}
-use Prim.Native.Nat.{◌*◌, ◌-◌}
-use lib.ListN.{length, take}
+use Rattle.std.proofs.Common.{◌≡◌, ◌+◌, ◌*◌, length, take}
 use Rattle.inertia.specs.Inertia.{reduce_of}
 use Rattle.inertia.proofs.reduce.Given as goal
 
+-- the entries of the first i rows stand
 abbrev pub invariant-loop-i : goal.invariant-loop-i
 invariant-loop-i l = (length l.n ≡ 36) × (take (l.i * 6) l.n ≡ take (l.i * 6) (reduce_of l.m l.v l.d))
 
-abbrev pub decreases-loop-i : goal.decreases-loop-i
-decreases-loop-i l = 6 - l.i
+-- and those of the first j columns of the next row
+abbrev pub invariant-loop-j : goal.invariant-loop-j
+invariant-loop-j l = (length l.n ≡ 36) × (take (l.i * 6 + l.j) l.n ≡ take (l.i * 6 + l.j) (reduce_of l.m l.v l.d))

@@ -10,11 +10,7 @@ use Rattle.refusals.proofs.Flags.{neither, not-not}
 use Rattle.mass_matrix.specs.Column.{bad_column}
 use Rattle.composites.proofs.plan.Squares.{small-square}
 
-pub record Inside (side column count : ℕ) : Type 0 where
-  pub within : column * side + side ≤ count
-  pub small : count ≤ 1444
-
-pub inside : (side column count : ℕ) → bad_column side column count ≡ false → Inside side column count
+pub inside : (side column count : ℕ) → bad_column side column count ≡ false → (column * side + side ≤ count) × (count ≤ 1444)
 unfolding bad_column
 inside side column count e =
     let long = not (eqb count (side * side)) in
@@ -24,4 +20,4 @@ inside side column count e =
     let low = leb-false side column b.1 in
     let wide = ltb-false 38 side a.0 in
     let square = eqb-true count (side * side) (not-not (eqb count (side * side)) b.0) in
-    record { within = omega (arith, suc-mul column side, mul-le-mul_right side low, square); small = omega (arith, small-square side wide, square) }
+    (omega (arith, suc-mul column side, mul-le-mul_right side low, square), omega (arith, small-square side wide, square))

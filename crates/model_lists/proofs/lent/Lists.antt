@@ -13,10 +13,10 @@ use lib.Ieee.{Float, nan}
 use lib.Ieee.Bits.{is_true}
 use lib.Ieee.Fits.{and_l, and_r}
 use Rattle.numbers.specs.Table.{tab}
-use Rattle.slots.specs.Slots.{part_of}
+use Rattle.model_lists.specs.Lent.{all_bytes, full_by, bytes_by, lendable, lent_model, lent_by}
 use Rattle.model_lists.specs.declared.read.Sizes.{Sizes}
 use Rattle.model_lists.specs.Read.{numbers_by, SizesIn}
-use Rattle.model_lists.specs.Lent.{all_bytes, full_by, lendable, lent_model, LentBy}
+use Rattle.std.proofs.Common.{Some, None, cond}
 
 -- ---- of the first n numbers, those from k on
 module _ (l : List ℕ) (n k : ℕ) (w : n ≤ length l) where
@@ -35,11 +35,11 @@ module _ (l : List ℕ) (n k : ℕ) (w : n ≤ length l) where
 pub copied : (d s : List ℕ) (k : ℕ) → k < length d → k < length s → take k d ≡ take k s → take (k + 1) (set d k (get_or s k 0)) ≡ take (k + 1) s
 copied d s k h b e = rw (add-one k, take-suc-set d k (get_or s k 0) h, take-suc s k 0 b, e)
 
--- the front of a list, as `slots::copy_from` has it
-pub front : (s : List Float) (n : ℕ) → n ≤ length s → part_of s 0 n ≡ take n s
-unfolding part_of tab
+-- the front of a list by the index
+pub front : (s : List Float) (n : ℕ) → n ≤ length s → tab (λ k. get_or s k nan) n ≡ take n s
+unfolding tab
 front s zero h = refl
-front s (suc n) h = let e : 0 + n ≡ n = omega arith in rw (e, take-suc s n nan h) (ap (λ (l : List Float). l ++ (get_or s n nan ∷ [])) (front s n (omega arith)))
+front s (suc n) h = rw (take-suc s n nan h) (ap (λ (l : List Float). l ++ (get_or s n nan ∷ [])) (front s n (omega arith)))
 
 -- ---- a model
 full-sizes : (p k o a l r : ℕ) → T (full_by p k o a l r) → (p ≡ 32) × (k ≡ 32) × (o ≡ 224) × (a ≡ 96) × (l ≡ 330) × (r ≡ 32)
@@ -63,30 +63,61 @@ full-sizes p k o a l r t =
 holds : {b : Bool} → b ≡ true → T b
 holds e = subst T (sym e) tt
 
-module _ (k : Sizes) (p q : List ℕ) (o a l r : List Float) (w : SizesIn k p q o a l r) {f x y : Bool}
-    (g : f ≡ full_by k.parents k.kinds k.origins k.axes k.links k.rotors) (u : x ≡ all_bytes (take 32 p)) (v : y ≡ all_bytes (take 32 q)) where
-  fine : (f && (x && y)) ≡ lendable (numbers_by k p q o a l r)
-  unfolding lendable
-  fine =
-      rw (length-take-le _ _ w.parents, length-take-le _ _ w.kinds, length-take-le _ _ w.origins, length-take-le _ _ w.axes, length-take-le _ _ w.links, length-take-le _ _ w.rotors, ← g)
-      (go f refl)
-    where
-      go : (t : Bool) → f ≡ t → (t && (x && y)) ≡ (t && (all_bytes (take k.parents p) && all_bytes (take k.kinds q)))
-      go true e = let s = full-sizes _ _ _ _ _ _ (holds (sym g ∙ e)) in rw (s.0, s.1, u, v)
-      go false e = refl
+pub none-by : (l : List ℕ) → false ≡ all_bytes l → None ≡ bytes_by l
+unfolding bytes_by
+none-by l e = rw (← e)
 
-  pub lent_by : {bs cs : List ℕ} {ds es ls rs : List Float} → (x ≡ true → bs ≡ take 32 p) → (y ≡ true → cs ≡ take 32 q)
-      → ds ≡ part_of o 0 224 → es ≡ part_of a 0 96 → ls ≡ part_of l 0 330 → rs ≡ part_of r 0 32
-      → LentBy (numbers_by k p q o a l r) (record { fine = f && (x && y); model = record { n = k.n; parents = bs; kinds = cs; origins = ds; axes = es; links = ls; rotors = rs } })
-  lent_by {bs} {cs} {ds} {es} {ls} {rs} b c d e h m = record { fine = fine; model = whole }
-    where
-      whole : (f && (x && y)) ≡ true → record { n = k.n; parents = bs; kinds = cs; origins = ds; axes = es; links = ls; rotors = rs } ≡ lent_model (numbers_by k p q o a l r)
-      whole t =
-          let i = holds t in
-          let j = and_r f _ i in
-          let s = full-sizes _ _ _ _ _ _ (subst T g (and_l f _ i)) in
-          let origins = front o 224 (omega (arith, w.origins, s.2)) in
-          let axes = front a 96 (omega (arith, w.axes, s.3)) in
-          let links = front l 330 (omega (arith, w.links, s.4)) in
-          let rotors = front r 32 (omega (arith, w.rotors, s.5)) in
-          rw (s.0, s.1, s.2, s.3, s.4, s.5, b (is_true x (and_l x y j)), c (is_true y (and_r x y j)), d, e, h, m, origins, axes, links, rotors)
+pub some-by : (l b : List ℕ) → true ≡ all_bytes l → b ≡ l → Some b ≡ bytes_by l
+unfolding bytes_by
+some-by l b e f = rw (← e, f)
+
+-- what bytes that were made or not made tell
+none-told : (l : List ℕ) → bytes_by l ≡ None → all_bytes l ≡ false
+unfolding bytes_by
+none-told l e = go (all_bytes l) e
+  where
+    go : (t : Bool) → cond t (Some l) None ≡ None → t ≡ false
+    go true f = let z : ◌≡◌ {A = ℕ} 0 1 = cc in absurd (omega arith)
+    go false f = refl
+
+some-told : (l b : List ℕ) → bytes_by l ≡ Some b → (all_bytes l ≡ true) × (b ≡ l)
+unfolding bytes_by
+some-told l b e = go (all_bytes l) e
+  where
+    go : (t : Bool) → cond t (Some l) None ≡ Some b → (t ≡ true) × (b ≡ l)
+    go true f = (refl, cc)
+    go false f = let z : ◌≡◌ {A = ℕ} 0 1 = cc in absurd (omega arith)
+
+module _ (k : Sizes) (p q : List ℕ) (o a l r : List Float) (w : SizesIn k p q o a l r) where
+  -- whether the lists are as long as a model's own
+  abbrev whole : Bool
+  whole = full_by k.parents k.kinds k.origins k.axes k.links k.rotors
+
+  lendable-is : lendable (numbers_by k p q o a l r) ≡ (whole && (all_bytes (take k.parents p) && all_bytes (take k.kinds q)))
+  unfolding lendable
+  lendable-is = rw (length-take-le _ _ w.parents, length-take-le _ _ w.kinds, length-take-le _ _ w.origins, length-take-le _ _ w.axes, length-take-le _ _ w.links, length-take-le _ _ w.rotors)
+
+  sizes : whole ≡ true → (k.parents ≡ 32) × (k.kinds ≡ 32) × (k.origins ≡ 224) × (k.axes ≡ 96) × (k.links ≡ 330) × (k.rotors ≡ 32)
+  sizes e = full-sizes _ _ _ _ _ _ (holds e)
+
+  pub not-full : whole ≡ false → None ≡ lent_by (numbers_by k p q o a l r)
+  unfolding lent_by
+  not-full e = rw (lendable-is, e)
+
+  pub no-parents : whole ≡ true → bytes_by (take 32 p) ≡ None → None ≡ lent_by (numbers_by k p q o a l r)
+  unfolding lent_by
+  no-parents e f = rw (lendable-is, e, (sizes e).0, none-told _ f)
+
+  pub no-kinds : {b : List ℕ} → whole ≡ true → bytes_by (take 32 p) ≡ Some b → bytes_by (take 32 q) ≡ None → None ≡ lent_by (numbers_by k p q o a l r)
+  unfolding lent_by
+  no-kinds {b} e f g = rw (lendable-is, e, (sizes e).0, (sizes e).1, (some-told _ b f).0, none-told _ g)
+
+  pub lent : {b c : List ℕ} {ds es ls rs : List Float} → whole ≡ true → bytes_by (take 32 p) ≡ Some b → bytes_by (take 32 q) ≡ Some c
+      → ds ≡ take 224 o → es ≡ take 96 a → ls ≡ take 330 l → rs ≡ take 32 r
+      → Some (record { n = k.n; parents = b; kinds = c; origins = ds; axes = es; links = ls; rotors = rs }) ≡ lent_by (numbers_by k p q o a l r)
+  unfolding lent_by
+  lent {b} {c} e f g d h m n =
+      let s = sizes e in
+      let x = some-told _ b f in
+      let y = some-told _ c g in
+      rw (lendable-is, e, s.0, s.1, s.2, s.3, s.4, s.5, x.0, y.0, x.1, y.1, d, h, m, n)

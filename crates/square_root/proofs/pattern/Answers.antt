@@ -1,7 +1,5 @@
-use mathlib.Core.Path.{◌≡◌, sym, ap, ◌∙◌, subst}
-use Prim.Native.Nat.{ℕ, ◌+◌, ◌*◌, ◌%◌, ◌^◌, ◌≤◌, ◌<◌}
+use Rattle.std.proofs.Common.{◌≡◌, sym, ap, ◌∙◌, subst, ℕ, ◌*◌, ◌+◌, ◌^◌, ◌%◌, ◌≤◌, ◌<◌, arith}
 use native.Mathlib.Nat.{mod-lt}
-use native.Mathlib.Omega.{arith}
 use lib.Pow.{pow_pos}
 use lib.Count.{count_leading_zeros}
 use Rattle.square_root.specs.SquareRoot.{isqrt, sig_of, exp_of}
@@ -9,37 +7,24 @@ use Rattle.square_root.specs.Guess.{rounded_root}
 use Rattle.square_root.proofs.Whole.{Lead, lead, eleven, shift, half, sig-lt, sig-pos, shifted, N-lo, N-hi, total, isqrt-is, pattern-at}
 use Rattle.square_root.proofs.Rounds.{rounded-small}
 use Rattle.square_root.proofs.pattern.Goals as goal
-use Rattle.square_root.proofs.pattern.Goals.{After-exponent-k}
+use Rattle.square_root.proofs.pattern.Goals.{After-from-z}
 
--- what is known of c and its leading zeros once the two calls are made
-held : (c : After-exponent-k) → Lead c.significand-c.result (count_leading_zeros 64 c.significand-c.result)
-held c = subst (λ (x : ℕ). Lead x (count_leading_zeros 64 x)) (sym c.significand-c.ensures) (lead (sig_of c.args.b) (sig-pos c.args.b c.requires.0) (sig-lt c.args.b))
+-- what is known of c and its leading zeros once the three calls are made
+held : (c : After-from-z) → Lead c.significand-c.result c.from-z.result
+held c =
+    subst (λ (z : ℕ). Lead c.significand-c.result z) (sym c.from-z.ensures)
+    (subst (λ (x : ℕ). Lead x (count_leading_zeros 64 x)) (sym c.significand-c.ensures) (lead (sig_of c.args.b) (sig-pos c.args.b c.requires.0) (sig-lt c.args.b)))
 
-zeros : (c : After-exponent-k) → (11 ≤ count_leading_zeros 64 c.significand-c.result) × (count_leading_zeros 64 c.significand-c.result ≤ 63)
-zeros c = eleven c.significand-c.result (count_leading_zeros 64 c.significand-c.result) (subst (λ (x : ℕ). x < 9007199254740992) (sym c.significand-c.ensures) (sig-lt c.args.b)) (held c)
-
-pub overflow_cast-z : goal.overflow_cast-z
-overflow_cast-z c = let z = zeros (goal.at.overflow_cast-z c).After-exponent-k in omega arith
-
-pub overflow_add-s : goal.overflow_add-s
-overflow_add-s c = let z = zeros (goal.at.overflow_add-s c).After-exponent-k in omega arith
+zeros : (c : After-from-z) → (11 ≤ c.from-z.result) × (c.from-z.result ≤ 63)
+zeros c = eleven c.significand-c.result c.from-z.result (subst (λ (x : ℕ). x < 9007199254740992) (sym c.significand-c.ensures) (sig-lt c.args.b)) (held c)
 
 pub overflow_sub-s : goal.overflow_sub-s
-overflow_sub-s c = let z = zeros (goal.at.overflow_sub-s c).After-exponent-k in omega arith
-
-pub overflow_sub-h : goal.overflow_sub-h
-overflow_sub-h c = let z = zeros (goal.at.overflow_sub-h c).After-exponent-k in omega arith
-
-pub overflow_sub-h-2 : goal.overflow_sub-h-2
-overflow_sub-h-2 c = let z = zeros (goal.at.overflow_sub-h-2 c).After-exponent-k in omega arith
-
-pub overflow_shl-c : goal.overflow_shl-c
-overflow_shl-c c = let z = zeros (goal.at.overflow_shl-c c).After-exponent-k in omega arith
+overflow_sub-s c = let z = zeros (goal.at.overflow_sub-s c).After-from-z in omega arith
 
 pub overflow_add-result-2 : goal.overflow_add-result-2
 overflow_add-result-2 c =
     let s = c.significand-c.result in
-    let w = s * 2 ^ shift (count_leading_zeros 64 s) c.exponent-k.result in
+    let w = s * 2 ^ shift c.from-z.result c.exponent-k.result in
     let r : c.rounded.result ≤ 9007199254740992 = subst (λ (x : ℕ). x ≤ 9007199254740992) (sym c.rounded.ensures) (rounded-small (w % 18446744073709551616) (mod-lt w (pow_pos 64))) in
     omega arith
 
@@ -47,13 +32,13 @@ pub returns : goal.returns
 returns c =
     let b = c.args.b in
     let s = c.significand-c.result in
-    let z = count_leading_zeros 64 s in
+    let z = c.from-z.result in
     let k = c.exponent-k.result in
     let t = shift z k in
     let w = s * 2 ^ t in
     let n = w * 17592186044416 in
-    let l = held (goal.at.returns c).After-exponent-k in
-    let zs = zeros (goal.at.returns c).After-exponent-k in
+    let l = held (goal.at.returns c).After-from-z in
+    let zs = zeros (goal.at.returns c).After-from-z in
     let small : s < 9007199254740992 = subst (λ (x : ℕ). x < 9007199254740992) (sym c.significand-c.ensures) (sig-lt b) in
     let whole : w % 18446744073709551616 ≡ w = shifted s z k small l in
     let fits : w < 18446744073709551616 = subst (λ (x : ℕ). x < 18446744073709551616) whole (mod-lt w (pow_pos 64)) in

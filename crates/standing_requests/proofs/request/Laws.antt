@@ -2,11 +2,10 @@
 use mathlib.Core.Path.{◌≡◌, refl, sym, ◌∙◌}
 use mathlib.Core.Bool.{Bool, true, false, ◌||◌, or-false, or_assoc}
 use mathlib.Core.List.{List, ◌++◌}
-use mathlib.Core.Option.{Option}
 use Prim.Native.Nat.{ℕ, zero-le, ◌+◌, ◌≤◌, ◌<◌}
 use native.Mathlib.Numerals.{add-one}
 use native.Mathlib.Omega.{arith}
-use borrow.Author.Tests.{lt-ltb, le-ltb, ne_eqb}
+use borrow.Author.Tests.{ne_eqb}
 use lib.Dec.{eqb}
 use lib.ListN.{length, get_or, take, drop, set, replicate, length-set, length-replicate, get_or-replicate, drop_of_length-le}
 use lib.Seq.{drop-cons, get_or-take, length-take-le, length_front, take_at}
@@ -14,25 +13,11 @@ use Rattle.numbers.specs.Table.{tab}
 use Rattle.numbers.proofs.Tables.{length-tab, get_or-tab}
 use Rattle.standing.proofs.Climbs.{flag-set}
 use Rattle.standing.proofs.Flags.{as-table}
-use Rattle.standing_requests.specs.Request.{listed, all_below, named}
+use Rattle.standing_requests.specs.Request.{listed}
 
 -- ---- flags by their index
 false-at : {flags : List Bool} {n : ℕ} → flags ≡ tab (λ t. false) n → (i : ℕ) → i < n → get_or flags i false ≡ false
 false-at {n = n} e i h = rw e (get_or-tab (λ t. false) false n i h)
-
--- ---- all below a limit: those from k on
-module _ (limit : ℕ) (l : List ℕ) (k : ℕ) where
-  pub below_on : k < length l → get_or l k 0 < limit → all_below limit (drop (k + 1) l) ≡ all_below limit (drop k l)
-  unfolding all_below
-  below_on h b = rw (add-one k, drop-cons l k 0 h, lt-ltb _ _ b)
-
-  pub below-off : k < length l → limit ≤ get_or l k 0 → false ≡ all_below limit (drop k l)
-  unfolding all_below
-  below-off h b = rw (drop-cons l k 0 h, le-ltb _ _ b)
-
-  pub below_end : length l ≤ k → true ≡ all_below limit (drop k l)
-  unfolding all_below
-  below_end h = rw (drop_of_length-le l h)
 
 -- ---- flags
 
@@ -73,10 +58,6 @@ module _ {l : List ℕ} {size : ℕ} {flags : List Bool} {k : ℕ} (f : Flagged 
   pub flag-end : length l ≤ k → flags ≡ tab (listed l) size
   unfolding listed
   flag-end h = as-table (listed l) size flags f.kept (λ i a. rw (drop_of_length-le l h, or-false) at (f.left i a))
-
--- a list that is read, by its limit
-pub named-to : {r : Option (List Bool × List (List ℕ))} (limit k size : ℕ) (ws : List (List ℕ)) → r ≡ named k size ws → k ≡ limit → r ≡ named limit size ws
-named-to limit k size ws h e = rw e at h
 
 -- ---- all false
 

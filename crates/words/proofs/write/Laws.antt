@@ -1,35 +1,12 @@
--- One turn of each loop of `write`, over plain lists. Assumes nothing.
+-- One turn of the loop that writes a list, over any kind of item. Assumes nothing.
 use mathlib.Core.Path.{◌≡◌, refl, ◌∙◌}
 use mathlib.Core.List.{List, [], ◌∷◌, ◌++◌, append_assoc, append-nil}
 use Prim.Native.Nat.{ℕ, zero-le, ◌+◌, ◌*◌, ◌≤◌, ◌<◌}
-use native.Mathlib.Nat.{add-suc, add-zero}
 use native.Mathlib.Numerals.{add-one}
 use native.Mathlib.Omega.{arith}
-use lib.ListN.{length, get_or, take, drop, set, drop_of_length-le}
-use lib.Seq.{drop-cons, take-suc, take-suc-set}
-use Rattle.words.specs.Write.{row, items_text, list_text, hex_text}
-
--- ---- bytes
-pub put-none : (out : List ℕ) (at : ℕ) → take (at + 0) out ≡ take at out ++ []
-put-none out at = rw (add-zero at, append-nil)
-
-pub put-more : (out out₀ text : List ℕ) (at i : ℕ) → at + i < length out → i < length text → take (at + i) out ≡ take at out₀ ++ take i text
-    → take (at + (i + 1)) (set out (at + i) (get_or text i 0)) ≡ take at out₀ ++ take (i + 1) text
-put-more out out₀ text at i h k e =
-    rw (add-one i, add-suc at i, take-suc-set out (at + i) (get_or text i 0) h, take-suc text i 0 k, e, append_assoc)
-
--- ---- a row of texts
-
--- what stands there after each text, where o stood before
-abbrev pub Written : List ℕ → List (List ℕ) → List ℕ → Type 0
-Written o [] q = q ≡ o
-Written o (t ∷ ts) q = (p : List ℕ) × (p ≡ o ++ t) × Written p ts q
-
-pub written : (o : List ℕ) (ts : List (List ℕ)) (q : List ℕ) → Written o ts q → q ≡ o ++ row ts
-written o [] q w = rw append-nil w
-written o (t ∷ ts) q w = written w.0 ts q w.2 ∙ rw w.1 (append_assoc o t (row ts))
-
--- ---- a list
+use lib.ListN.{length, get_or, take, drop, drop_of_length-le}
+use lib.Seq.{drop-cons}
+use Rattle.words.specs.Write.{items_text, list_text, hex_text}
 
 -- WHAT A LOOP KEEPS that writes the items of l from a₀ on: i are written, and with the text of those left what stands there is the whole text
 pub record Putting {A : Type 0} (f : A → List ℕ) (l : List A) (a₀ : ℕ) (out₀ out : List ℕ) (a i : ℕ) : Type 0 where
@@ -39,23 +16,23 @@ pub record Putting {A : Type 0} (f : A → List ℕ) (l : List A) (a₀ : ℕ) (
   pub high : a ≤ a₀ + 17 * i
   pub left : take a out ++ items_text f (drop i l) ≡ take a₀ out₀ ++ items_text f l
 
-pub items-start : {A : Type 0} (f : A → List ℕ) (l : List A) (a : ℕ) (out : List ℕ) → Putting f l a out out a 0
-items-start f l a out = record { few = zero-le; kept = refl; low = omega arith; high = omega arith; left = refl }
+pub items_start : {A : Type 0} (f : A → List ℕ) (l : List A) (a : ℕ) (out : List ℕ) → Putting f l a out out a 0
+items_start f l a out = record { few = zero-le; kept = refl; low = omega arith; high = omega arith; left = refl }
 
 module _ {A : Type 0} {f : A → List ℕ} {l : List A} {a₀ : ℕ} {out₀ out : List ℕ} {a i : ℕ} (h : Putting f l a₀ out₀ out a i) where
-  -- a space up to b, and an item up to c
-  pub items_more : (d : A) (b c : ℕ) (x y : List ℕ) → i < length l → length y ≡ length out₀
+  -- a space up to b, and the next item v up to c
+  pub items_more : {v : A} {b c : ℕ} (x y : List ℕ) → v ≡ get_or l i v → i < length l → length y ≡ length out₀
       → (b ≡ a + 1) × (take b x ≡ take a out ++ (32 ∷ []))
-      → (b ≤ c) × (c ≤ b + 16) × (take c y ≡ take b x ++ f (get_or l i d))
+      → (b ≤ c) × (c ≤ b + 16) × (take c y ≡ take b x ++ f v)
       → Putting f l a₀ out₀ y c (i + 1)
   unfolding items_text
-  items_more d b c x y n e p q =
+  items_more {v = v} x y is n e p q =
       record {
         few = omega arith;
         kept = e;
         low = omega arith;
         high = omega arith;
-        left = rw (q.2, p.1, add-one i) (simp append_assoc (rw (drop-cons l i d n) at h.left));
+        left = rw (q.2, p.1, add-one i) (simp append_assoc (rw (drop-cons l i v n, ← is) at h.left));
       }
 
   -- behind the length, which is written from at on

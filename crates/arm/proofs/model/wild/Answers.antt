@@ -1,28 +1,28 @@
-use mathlib.Core.Bool.{true≢false}
-use mathlib.Core.Path.{sym, ◌∙◌}
-use borrow.Author.Tests.{lt-ltb, le-ltb}
-use Rattle.refusals.specs.Refusals.{found}
-use Rattle.refusals.proofs.Searches.{looks-lowest, looks-hit, looks-next, looks-last}
-use Rattle.arm.specs.Model.{wild_of}
-use Rattle.arm.proofs.model.Known.{good}
+use mathlib.Core.Bool.{Bool, false}
+use mathlib.Core.List.{List}
+use mathlib.Core.Path.{◌≡◌, refl, sym, ◌∙◌}
+use Prim.Native.Nat.{ℕ}
+use borrow.Author.Tests.{tests, lt-ltb, le-ltb}
+use native.Mathlib.Omega.{arith}
+use Rattle.std.proofs.Common.{rules}
+use Rattle.std.proofs.lemmas.Iterator.{YieldsList-from_range}
+use Rattle.std.proofs.lemmas.Iterator.Search.{any_from_yields_List}
+use Rattle.arm.specs.Model.{Good, wild_joint, wild_of}
+use Rattle.arm.proofs.model.Known.{any_found, tame}
 use Rattle.arm.proofs.model.wild.Goals as goal
+
+-- the answer, and what it tells
+told : (n : ℕ) (parents kinds : List ℕ) {r : Bool} → r ≡ wild_of n parents kinds → (r ≡ wild_of n parents kinds) × (r ≡ false → Good n parents kinds)
+told n parents kinds e = (e, λ f. tame n parents kinds (sym e ∙ f))
 
 pub returns-then-n-gt32 : goal.returns-then-n-gt32
 unfolding wild_of
-returns-then-n-gt32 c = (simp (lt-ltb _ _ c.if-n-gt32.true), λ e. absurd (true≢false e))
+returns-then-n-gt32 c = told _ _ _ (simp (lt-ltb _ _ c.if-n-gt32.true))
 
-pub loop-j-init : goal.loop-j-init
-loop-j-init c = looks-lowest _ _
-
-pub returns-then-wild_joint : goal.returns-then-wild_joint
-unfolding wild_of found
-returns-then-wild_joint c =
-    (simp (le-ltb _ _ c.if-n-gt32.false, ← looks-hit _ _ _ _ c.loop-j.invariant c.loop-j-test.true (sym c.wild_joint.ensures ∙ c.if-wild_joint.true)), λ e. absurd (true≢false e))
-
-pub loop-j-preserved : goal.loop-j-preserved
-loop-j-preserved c = looks-next _ _ _ _ c.loop-j.invariant c.loop-j-test.true (sym c.wild_joint.ensures ∙ c.if-wild_joint.false)
-
-pub returns : goal.returns
-unfolding wild_of found
-returns c =
-    let e = looks-last _ _ _ _ c.loop-j.invariant c.loop-j-test.false in (simp (le-ltb _ _ c.if-n-gt32.false, ← e), λ _. good c.args.n c.args.parents.now c.args.kinds.now c.if-n-gt32.false (sym e))
+pub returns-else-n-gt32 : goal.returns-else-n-gt32
+unfolding wild_of
+returns-else-n-gt32 c =
+    told _ _ _
+    (simp (le-ltb _ _ c.if-n-gt32.false)
+    (any_from_yields_List (wild_joint c.args.parents.now c.args.kinds.now) _ _ _ c.any.ensures.ran (YieldsList-from_range 0 _ _ refl (omega arith)) (λ x b q k. search (rules, tests))
+    ∙ any_found _ _))

@@ -1,15 +1,13 @@
-use Rattle.refusals.proofs.Searches.{looks-hit, looks-next, looks-last}
-use Rattle.arm.proofs.topology.Actives.{begins}
+use mathlib.Core.Bool.{true, false}
+use mathlib.Core.Path.{◌≡◌}
+use borrow.Author.Tests.{tests}
+use Rattle.std.proofs.Common.{rules}
+use Rattle.std.proofs.lemmas.Iterator.{first_from_Range}
+use Rattle.arm.specs.Topology.{holds_of}
+use Rattle.arm.proofs.topology.Actives.{searched}
 use Rattle.arm.proofs.topology.active_joint.Goals as goal
 
-pub loop-i-init : goal.loop-i-init
-loop-i-init c = begins _ _ _ c.requires.2
-
-pub returns-then-holds_at : goal.returns-then-holds_at
-returns-then-holds_at c = looks-hit _ _ _ _ c.loop-i.invariant c.loop-i-test.true (rw c.holds_at.ensures at c.if-holds_at.true)
-
-pub loop-i-preserved : goal.loop-i-preserved
-loop-i-preserved c = looks-next _ _ _ _ c.loop-i.invariant c.loop-i-test.true (rw c.holds_at.ensures at c.if-holds_at.false)
-
 pub returns : goal.returns
-returns c = looks-last _ _ _ _ c.loop-i.invariant c.loop-i-test.false
+returns c =
+    searched c.args.kinds.now c.args.n c.args.k c.find.result
+    (first_from_Range _ _ _ _ (λ x. holds_of c.args.kinds.now c.args.k x ≡ true) (λ x. holds_of c.args.kinds.now c.args.k x ≡ false) c.find.ensures.ran (λ x q k. search (rules, tests)) (λ x q k. search (rules, tests)))

@@ -1,20 +1,9 @@
-use mathlib.Core.Path.{sym, ap, ◌∙◌}
-use Rattle.refusals.proofs.Searches.{looks-lowest, looks-hit, looks-next, looks-last}
-use Rattle.builder.specs.Checks.{refused, bad_axis}
+use borrow.Author.Tests.{tests}
+use Rattle.std.proofs.Common.{rules}
+use Rattle.refusals.proofs.Finds.{lowest_found}
+use Rattle.builder.specs.Checks.{bad_axis}
 use Rattle.builder.proofs.checks.bad_axis.Goals as goal
 
-pub loop-j-init : goal.loop-j-init
-loop-j-init c = looks-lowest _ _
-
-pub returns-in-Bad : goal.returns-in-Bad
-unfolding bad_axis
-returns-in-Bad c =
-    looks-hit _ _ _ _ c.loop-j.invariant c.loop-j-test.true (ap refused (sym c.axis_at-axis.ensures ∙ c.in-Bad.is))
-
-pub loop-j-preserved : goal.loop-j-preserved
-unfolding bad_axis
-loop-j-preserved c =
-    looks-next _ _ _ _ c.loop-j.invariant c.loop-j-test.true (ap refused (sym c.axis_at-axis.ensures ∙ c.in-Of.is))
-
 pub returns : goal.returns
-returns c = looks-last _ _ _ _ c.loop-j.invariant c.loop-j-test.false
+unfolding bad_axis
+returns c = lowest_found (bad_axis c.args.kinds.now c.args.axes.now) _ _ _ _ c.find.ensures.ran (λ x q k. search (rules, tests)) (λ x q k. search (rules, tests))

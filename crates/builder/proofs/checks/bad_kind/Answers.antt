@@ -1,15 +1,8 @@
-use borrow.Author.Tests.{lt-ltb, le-ltb}
-use Rattle.refusals.proofs.Searches.{looks-lowest, looks-hit, looks-next, looks-last}
+use borrow.Author.Tests.{tests}
+use Rattle.std.proofs.Common.{rules}
+use Rattle.refusals.proofs.Finds.{lowest_found}
+use Rattle.arm.specs.Model.{bad_kind}
 use Rattle.builder.proofs.checks.bad_kind.Goals as goal
 
-pub loop-j-init : goal.loop-j-init
-loop-j-init c = looks-lowest _ _
-
-pub returns-then-kinds-j-gt2 : goal.returns-then-kinds-j-gt2
-returns-then-kinds-j-gt2 c = looks-hit _ _ _ _ c.loop-j.invariant c.loop-j-test.true (lt-ltb _ _ c.if-kinds-j-gt2.true)
-
-pub loop-j-preserved : goal.loop-j-preserved
-loop-j-preserved c = looks-next _ _ _ _ c.loop-j.invariant c.loop-j-test.true (le-ltb _ _ c.if-kinds-j-gt2.false)
-
 pub returns : goal.returns
-returns c = looks-last _ _ _ _ c.loop-j.invariant c.loop-j-test.false
+returns c = lowest_found (bad_kind c.args.kinds.now) _ _ _ _ c.find.ensures.ran (λ x q k. search (rules, tests)) (λ x q k. search (rules, tests))

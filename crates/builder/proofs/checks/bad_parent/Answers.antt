@@ -1,15 +1,8 @@
-use borrow.Author.Tests.{lt-ltb, le-ltb}
-use Rattle.refusals.proofs.Searches.{looks-lowest, looks-hit, looks-next, looks-last}
+use borrow.Author.Tests.{tests}
+use Rattle.std.proofs.Common.{rules}
+use Rattle.refusals.proofs.Finds.{lowest_found}
+use Rattle.arm.specs.Model.{bad_parent}
 use Rattle.builder.proofs.checks.bad_parent.Goals as goal
 
-pub loop-j-init : goal.loop-j-init
-loop-j-init c = looks-lowest _ _
-
-pub returns-then-j-parents : goal.returns-then-j-parents
-returns-then-j-parents c = looks-hit _ _ _ _ c.loop-j.invariant c.loop-j-test.true (lt-ltb _ _ c.if-j-parents.true)
-
-pub loop-j-preserved : goal.loop-j-preserved
-loop-j-preserved c = looks-next _ _ _ _ c.loop-j.invariant c.loop-j-test.true (le-ltb _ _ c.if-j-parents.false)
-
 pub returns : goal.returns
-returns c = looks-last _ _ _ _ c.loop-j.invariant c.loop-j-test.false
+returns c = lowest_found (bad_parent c.args.parents.now) _ _ _ _ c.find.ensures.ran (λ x q k. search (rules, tests)) (λ x q k. search (rules, tests))

@@ -1,6 +1,4 @@
 use mathlib.Core.Path.{◌≡◌}
-use Prim.Native.Nat.{◌-◌, ◌≤◌}
-use lib.ListN.{length}
 use Rattle.forward_visits.specs.Inputs.{inputs_by}
 use Rattle.dynamics.specs.Calculation.{work_by}
 use Rattle.calculations.specs.Make.{in_portions}
@@ -8,7 +6,6 @@ use Rattle.calculations.proofs.make.Laws.{after}
 use Rattle.calculations.proofs.make.portions.Given as goal
 
 abbrev pub invariant-loop-k : goal.invariant-loop-k
-invariant-loop-k l = (l.k ≤ length l.budgets) × (length l.counts ≡ length l.initial.counts) × (length l.ws ≡ length l.initial.ws) × (length l.out ≡ length l.initial.out) × (after (work_by l.c l.n l.parents l.kinds l.origins l.axes l.links l.rotors (inputs_by l.q l.qd l.forces l.loaded l.loads)) l.budgets l.k l.counts (l.answer, l.ws, l.out) ≡ in_portions (work_by l.c l.n l.parents l.kinds l.origins l.axes l.links l.rotors (inputs_by l.q l.qd l.forces l.loaded l.loads)) l.budgets (l.initial.answer, l.initial.ws, l.initial.out))
-
-abbrev pub decreases-loop-k : goal.decreases-loop-k
-decreases-loop-k l = length l.budgets - l.k
+invariant-loop-k l =
+    after (work_by l.c l.n l.parents l.kinds l.origins l.axes l.links l.rotors (inputs_by l.q l.qd l.forces l.loaded l.loads)) l.budgets l.k l.counts (l.answer, l.ws, l.out)
+    ≡ in_portions (work_by l.c l.n l.parents l.kinds l.origins l.axes l.links l.rotors (inputs_by l.q l.qd l.forces l.loaded l.loads)) l.budgets (l.initial.answer, l.initial.ws, l.initial.out)

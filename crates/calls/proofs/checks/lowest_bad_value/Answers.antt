@@ -1,14 +1,9 @@
-use Rattle.refusals.proofs.Searches.{looks-lowest, looks-hit, looks-next, looks-last}
+use borrow.Author.Tests.{tests}
+use Rattle.std.proofs.Common.{rules}
+use Rattle.refusals.proofs.Finds.{lowest_found}
+use Rattle.calls.specs.Checks.{bad_value}
 use Rattle.calls.proofs.checks.lowest_bad_value.Goals as goal
 
-pub loop-j-init : goal.loop-j-init
-loop-j-init c = looks-lowest _ _
-
-pub returns-then-bad_value : goal.returns-then-bad_value
-returns-then-bad_value c = (looks-hit _ _ _ _ c.loop-j.invariant c.loop-j-test.true (rw c.bad_value.ensures at c.if-bad_value.true))
-
-pub loop-j-preserved : goal.loop-j-preserved
-loop-j-preserved c = looks-next _ _ _ _ c.loop-j.invariant c.loop-j-test.true (rw c.bad_value.ensures at c.if-bad_value.false)
-
 pub returns : goal.returns
-returns c = (looks-last _ _ _ _ c.loop-j.invariant c.loop-j-test.false)
+returns c =
+    lowest_found (bad_value c.args.kinds.now c.args.q.now) _ _ _ _ c.find.ensures.ran (λ x q k. search (rules, tests)) (λ x q k. search (rules, tests))

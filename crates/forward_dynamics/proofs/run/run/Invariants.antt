@@ -1,7 +1,7 @@
 use mathlib.Core.Bool.{false}
 use mathlib.Core.List.{List}
 use mathlib.Core.Path.{◌≡◌}
-use Prim.Native.Nat.{ℕ}
+use Prim.Native.Nat.{ℕ, ◌-◌}
 use lib.Ieee.{Float}
 use Rattle.numbers.specs.declared.quaternion.Quaternion.{Quaternion}
 use Rattle.spatial.specs.declared.twist.Twist.{Twist}
@@ -18,8 +18,8 @@ use Rattle.forward_dynamics.proofs.run.run.Given as goal
 abbrev pub visited : Plan → Quaternion → Twist → List ℕ → List ℕ → List Float → List Float → List Float → List Float → Inputs → ℕ → State → State
 visited p r v parents kinds origins axes links rotors i k s = iterate (step_by (visits_by p r v parents kinds origins axes links rotors i) (results_place p.n)) k s
 
-abbrev pub invariant-loop-left : goal.invariant-loop-left
-invariant-loop-left l = (length l.ws ≡ length l.initial.ws) × (length l.out ≡ length l.initial.out) × Within false l.p l.s.position × (visited l.p l.rotation l.velocity l.parents l.kinds l.origins l.axes l.links l.rotors (inputs_by l.q l.qd l.forces l.loaded l.loads) l.left (l.s, l.ws, l.out) ≡ visited l.p l.rotation l.velocity l.parents l.kinds l.origins l.axes l.links l.rotors (inputs_by l.q l.qd l.forces l.loaded l.loads) l.budget (l.initial.s, l.initial.ws, l.initial.out))
-
-abbrev pub decreases-loop-left : goal.decreases-loop-left
-decreases-loop-left l = l.left
+abbrev pub invariant-loop : goal.invariant-loop
+invariant-loop l =
+    (length l.ws ≡ length l.initial.ws) × (length l.out ≡ length l.initial.out) × Within false l.p l.s.position
+    × (visited l.p l.rotation l.velocity l.parents l.kinds l.origins l.axes l.links l.rotors (inputs_by l.q l.qd l.forces l.loaded l.loads) (l.budget - l.counter) (l.s, l.ws, l.out)
+    ≡ visited l.p l.rotation l.velocity l.parents l.kinds l.origins l.axes l.links l.rotors (inputs_by l.q l.qd l.forces l.loaded l.loads) l.budget (l.initial.s, l.initial.ws, l.initial.out))

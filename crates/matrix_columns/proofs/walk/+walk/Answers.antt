@@ -11,12 +11,12 @@ returns-then-parent-lead-eq0 t c =
 -- a floating one
 pub returns-then-parent-eq0 : goal.returns-then-parent-eq0
 returns-then-parent-eq0 t c =
-    (omega arith, reached-root (plan_with c.args.n c.args.lead c.args.side) c.args.parents.now c.args.kinds.now c.args.axes.now c.args.column c.args.j c.args.ws.now c.wrench-w.ensures c.put_here.ensures c.parent_at-parent.ensures.0 c.carried-up.ensures c.if-parent-eq0.true c.put_end.ensures)
+    (omega arith, reached-root (plan_with c.args.n c.args.lead c.args.side) c.args.parents.now c.args.kinds.now c.args.axes.now c.args.column c.args.j c.args.ws.now c.wrench-w.ensures c.put_here.ensures c.parent_at-parent.ensures.0 c.carried-up.ensures c.if-parent-eq0.true c.to_vector.ensures)
 
 -- the leg ends at the parent
 pub returns-then-left-eq0 : goal.returns-then-left-eq0
 returns-then-left-eq0 t c =
-    (c.parent_at-parent.ensures.1, reached-parent (plan_with c.args.n c.args.lead c.args.side) c.args.parents.now c.args.kinds.now c.args.axes.now c.args.column c.args.j c.args.ws.now c.wrench-w.ensures c.put_here.ensures c.parent_at-parent.ensures.0 c.carried-up.ensures c.requires.0.good.tree c.requires.2 c.if-parent-eq0.false c.put_end-then-left-eq0.ensures)
+    (c.parent_at-parent.ensures.1, reached-parent (plan_with c.args.n c.args.lead c.args.side) c.args.parents.now c.args.kinds.now c.args.axes.now c.args.column c.args.j c.args.ws.now c.wrench-w.ensures c.put_here.ensures c.parent_at-parent.ensures.0 c.carried-up.ensures c.requires.0.good.tree c.requires.2 c.if-parent-eq0.false c.to_vector-then-left-eq0.ensures)
 
 -- or goes on there
 pub returns : goal.returns

@@ -6,6 +6,3 @@ pub put_entry-requires : goal.put_entry-requires
 put_entry-requires c =
     let is = motion-at-is c.args.kinds.now c.args.axes.now c.args.j c.motion_at-motion.ensures (c.requires.0.good.known c.args.j c.requires.2) in
     (c.requires.0, search rules, c.requires.2, c.requires.3, is.number)
-
-pub returns : goal.returns
-returns c = simp (c.put_entry.ensures, c.entry-e.ensures, c.motion_at-motion.ensures)

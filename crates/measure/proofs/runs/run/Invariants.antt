@@ -1,5 +1,6 @@
--- `run` ends: its calls are counted down.
+use Rattle.std.proofs.Common.{◌≡◌}
+use Rattle.measure.specs.Runs.{calls_of}
 use Rattle.measure.proofs.runs.run.Given as goal
 
-abbrev pub decreases-loop-left : goal.decreases-loop-left
-decreases-loop-left l = l.left
+abbrev pub invariant-loop : goal.invariant-loop
+invariant-loop l = l.s ≡ calls_of l.routine l.counter

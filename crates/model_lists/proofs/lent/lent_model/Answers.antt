@@ -1,7 +1,16 @@
 -- `lent::lent_model` meets its contract. What the steps give makes a lent model.
-use Rattle.model_lists.proofs.lent.Lists.{lent_by}
+use mathlib.Core.Path.{sym, ◌∙◌}
+use Rattle.model_lists.proofs.lent.Lists.{not-full, no-parents, no-kinds, lent}
 use Rattle.model_lists.proofs.lent.lent_model.Goals as goal
 
+pub returns-then-not-full : goal.returns-then-not-full
+returns-then-not-full c = not-full _ _ _ _ _ _ _ c.requires (sym c.full.ensures ∙ c.if-not-full.true)
+
+pub returns-in_err-narrow : goal.returns-in_err-narrow
+returns-in_err-narrow c = c.from_residual.ensures ∙ no-parents _ _ _ _ _ _ _ c.requires (sym c.full.ensures ∙ c.if-not-full.false) (sym c.in_err-narrow.ensures)
+
+pub returns-in_err-narrow-2 : goal.returns-in_err-narrow-2
+returns-in_err-narrow-2 c = c.from_residual-in_err-narrow-2.ensures ∙ no-kinds _ _ _ _ _ _ _ c.requires (sym c.full.ensures ∙ c.if-not-full.false) (sym c.in_ok-narrow.ensures) (sym c.in_err-narrow-2.ensures)
+
 pub returns : goal.returns
-returns c =
-    rw (c.both-fine.ensures, c.both.ensures) (lent_by c.args.k c.args.parents.now c.args.kinds.now c.args.origins.now c.args.axes.now c.args.links.now c.args.rotors.now c.requires c.full.ensures c.narrow-p.ensures.0 c.narrow-q.ensures.0 c.narrow-p.ensures.1 c.narrow-q.ensures.1 c.copy_from.ensures c.copy_from-2.ensures c.copy_from-3.ensures c.copy_from-4.ensures)
+returns c = lent _ _ _ _ _ _ _ c.requires (sym c.full.ensures ∙ c.if-not-full.false) (sym c.in_ok-narrow.ensures) (sym c.in_ok-narrow-2.ensures) c.front.ensures c.front-2.ensures c.front-3.ensures c.front-4.ensures

@@ -1,11 +1,7 @@
 use mathlib.Core.Path.{◌≡◌}
-use Prim.Native.Nat.{◌-◌, ◌≤◌}
 use lib.ListN.{length, take, drop}
 use Rattle.model_lists.specs.Lent.{all_bytes}
 use Rattle.model_lists.proofs.lent.narrow.Given as goal
 
 abbrev pub invariant-loop-k : goal.invariant-loop-k
-invariant-loop-k l = (l.k ≤ 32) × (length l.bytes ≡ 32) × (take l.k l.bytes ≡ take l.k l.s) × (all_bytes (drop l.k (take 32 l.s)) ≡ all_bytes (take 32 l.s))
-
-abbrev pub decreases-loop-k : goal.decreases-loop-k
-decreases-loop-k l = 32 - l.k
+invariant-loop-k l = (length l.bytes ≡ 32) × (take l.k l.bytes ≡ take l.k l.s) × (all_bytes (drop l.k (take 32 l.s)) ≡ all_bytes (take 32 l.s))

@@ -1,19 +1,12 @@
-use mathlib.Core.Path.{◌≡◌, refl, ap, ◌∙◌}
-use Prim.Native.Nat.{ℕ}
-use native.Mathlib.Numerals.{add-one}
-use native.Mathlib.Omega.{arith}
-use lib.ListN.{length}
-use Rattle.numbers.specs.Double.{finite_to}
-use borrow.Author.Rules.{rules}
+use Rattle.std.proofs.Common.{◌∙◌, rules}
+use Rattle.std.proofs.lemmas.Iterator.{YieldsList-from_slice}
+use Rattle.std.proofs.lemmas.Iterator.Search.{all_from_yields_List}
+use borrow.Author.Tests.{tests}
+use Rattle.numbers.specs.Double.{finite}
+use Rattle.numbers.proofs.double.Slices.{all_are}
 use Rattle.numbers.proofs.double.all_finite.Goals as goal
 
-pub loop-k-init : goal.loop-k-init
-unfolding finite_to
-loop-k-init c = (search rules, refl)
-
-pub loop-k-preserved : goal.loop-k-preserved
-unfolding finite_to
-loop-k-preserved c = (search rules, rw (add-one c.loop-k.k, c.both-ok.ensures, c.is_finite.ensures, c.loop-k.invariant.1))
-
 pub returns : goal.returns
-returns c = let e : c.loop-k.k ≡ length c.args.v.now = omega arith in c.loop-k.invariant.1 ∙ ap (λ (k : ℕ). finite_to c.args.v.now k) e
+returns c =
+    all_from_yields_List finite _ _ _ c.all.ensures.ran (YieldsList-from_slice c.args.v.now cc) (λ x b q k. search (rules, tests))
+    ∙ all_are c.args.v.now

@@ -1,19 +1,9 @@
-use mathlib.Core.Path.{◌≡◌, refl, ap, ◌∙◌}
-use Prim.Native.Nat.{ℕ}
-use native.Mathlib.Numerals.{add-one}
-use native.Mathlib.Omega.{arith}
-use lib.ListN.{length}
-use Rattle.numbers.specs.Double.{amax_to}
-use borrow.Author.Rules.{rules}
+use Rattle.std.proofs.Common.{◌≡◌, ◌∙◌, arith}
+use Rattle.std.proofs.lemmas.Grind.{common_steps}
+use Rattle.std.specs.List.{fold}
+use Rattle.numbers.specs.Double.{0·0}
+use Rattle.numbers.proofs.double.Slices.{larger, largest_is}
 use Rattle.numbers.proofs.double.amax.Goals as goal
 
-pub loop-k-init : goal.loop-k-init
-unfolding amax_to
-loop-k-init c = (search rules, refl)
-
-pub loop-k-preserved : goal.loop-k-preserved
-unfolding amax_to
-loop-k-preserved c = (search rules, rw (add-one c.loop-k.k, c.max-x.ensures, c.abs.ensures, c.loop-k.invariant.1))
-
 pub returns : goal.returns
-returns c = let e : c.loop-k.k ≡ length c.args.v.now = omega arith in c.loop-k.invariant.1 ∙ ap (λ (k : ℕ). amax_to c.args.v.now k) e
+returns c = let e : c.fold.result ≡ fold larger 0·0 c.args.v.now = grind (arith, common_steps) in e ∙ largest_is c.args.v.now

@@ -1,6 +1,6 @@
 use mathlib.Core.Bool.{Bool}
 use mathlib.Core.List.{List}
-use Prim.Native.Nat.{ℕ, ◌*◌, ◌-◌}
+use Prim.Native.Nat.{ℕ, ◌*◌}
 use Rattle.numbers.proofs.Filled.{Filled}
 use Rattle.calls.specs.declared.plan.Plan.{Plan}
 use Rattle.standing.specs.Standing.{mark_number, stands_by}
@@ -11,6 +11,3 @@ mark_of p parents kinds composites frames axes rotors = mark_number p kinds (sta
 
 abbrev pub invariant-loop-t : goal.invariant-loop-t
 invariant-loop-t l = Filled (mark_of l.p l.parents l.kinds l.composites l.frames l.axes l.rotors) (l.p.side * l.p.side) l.marks l.t
-
-abbrev pub decreases-loop-t : goal.decreases-loop-t
-decreases-loop-t l = l.p.side * l.p.side - l.t

@@ -8,35 +8,17 @@ use Rattle.standing.proofs.touched.flag_frames.Goals as goal
 use Rattle.standing.proofs.touched.flag_frames.Goals.{then-reframed_at, else-reframed_at}
 
 pub loop-x-init : goal.loop-x-init
-loop-x-init c = (omega arith, gathers-begin _ _)
-
-pub reframed_at-requires : goal.reframed_at-requires
-reframed_at-requires c = omega (arith, c.loop-x-test.true, c.requires.0.few)
-
-pub parent_at-requires : goal.parent_at-requires
-parent_at-requires c = (c.requires.0, c.loop-x-test.true)
-
-pub flag_up-requires : goal.flag_up-requires
-flag_up-requires c =
-    (c.requires.0, omega (arith, c.parent_at.ensures.1, c.loop-x-test.true), c.loop-x.invariant.1.size ∙ c.requires.1)
-
-pub overflow_add-x : goal.overflow_add-x
-overflow_add-x c = record { fits = omega (arith, c.loop-x-test.true, c.requires.0.few) }
-
-pub loop-x-smaller : goal.loop-x-smaller
-loop-x-smaller c = omega (arith, c.loop-x-test.true)
+loop-x-init c = gathers-begin _ _
 
 pub loop-x-preserved : goal.loop-x-preserved
 loop-x-preserved c =
     let P = parent_of c.args.parents.now in
     let up = P c.loop-x.x in
-    let g = c.loop-x.invariant.1 in (
-      omega (arith, c.loop-x-test.true),
-      elim c.if-reframed_at.branch [
-        | then-reframed_at w ↦ gathers-on _ _ _ _ g (λ l. carries P l up) 33 _ c.requires.1 (w.flags-is ∙ rw w.parent_at.ensures.0 at w.flag_up.ensures) (λ l. and_is (carries P l up) (sym c.reframed_at.ensures ∙ w.if-reframed_at.true))
-        | else-reframed_at w ↦ rw w.flags-is (gathers-over _ _ _ _ g (λ l. and-not (carries P l up) (sym c.reframed_at.ensures ∙ w.if-reframed_at.false)))
-      ],
-    )
+    let g = c.loop-x.invariant in
+    elim c.if-reframed_at.branch [
+      | then-reframed_at w ↦ gathers-on _ _ _ _ g (λ l. carries P l up) 33 _ c.requires.1 (w.flags-is ∙ rw w.parent_at.ensures.0 at w.flag_up.ensures) (λ l. and_is (carries P l up) (sym c.reframed_at.ensures ∙ w.if-reframed_at.true))
+      | else-reframed_at w ↦ rw w.flags-is (gathers-over _ _ _ _ g (λ l. and-not (carries P l up) (sym c.reframed_at.ensures ∙ w.if-reframed_at.false)))
+    ]
 
 pub returns : goal.returns
-returns c = gathers-end _ _ _ _ c.loop-x.invariant.1 33 c.args.n c.requires.1 (omega (arith, c.loop-x.invariant.0, c.loop-x-test.false))
+returns c = gathers-end _ _ _ _ c.loop-x.invariant 33 c.args.n c.requires.1 (omega arith)

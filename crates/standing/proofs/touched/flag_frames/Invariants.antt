@@ -1,5 +1,4 @@
 use mathlib.Core.Bool.{◌&&◌}
-use Prim.Native.Nat.{◌-◌, ◌≤◌}
 use Rattle.arm.specs.Model.{parent_of}
 use Rattle.standing.specs.Tree.{carries}
 use Rattle.standing.specs.Standing.{reframed}
@@ -7,7 +6,4 @@ use Rattle.standing.proofs.Climbs.{Gathers}
 use Rattle.standing.proofs.touched.flag_frames.Given as goal
 
 abbrev pub invariant-loop-x : goal.invariant-loop-x
-invariant-loop-x l = (l.x ≤ l.n) × Gathers (λ k x. carries (parent_of l.parents) k (parent_of l.parents x) && reframed l.kinds l.frames l.axes x) l.initial.flags l.flags l.x
-
-abbrev pub decreases-loop-x : goal.decreases-loop-x
-decreases-loop-x l = l.n - l.x
+invariant-loop-x l = Gathers (λ k x. carries (parent_of l.parents) k (parent_of l.parents x) && reframed l.kinds l.frames l.axes x) l.initial.flags l.flags l.x

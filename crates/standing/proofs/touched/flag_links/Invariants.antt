@@ -1,5 +1,4 @@
 use mathlib.Core.Bool.{◌&&◌}
-use Prim.Native.Nat.{suc, ◌-◌, ◌≤◌}
 use Rattle.arm.specs.Model.{parent_of}
 use Rattle.standing.specs.Tree.{carries}
 use Rattle.standing.specs.Standing.{another}
@@ -7,7 +6,4 @@ use Rattle.standing.proofs.Climbs.{Gathers}
 use Rattle.standing.proofs.touched.flag_links.Given as goal
 
 abbrev pub invariant-loop-x : goal.invariant-loop-x
-invariant-loop-x l = (l.x ≤ suc l.n) × Gathers (λ k x. carries (parent_of l.parents) k x && another l.links x) l.initial.flags l.flags l.x
-
-abbrev pub decreases-loop-x : goal.decreases-loop-x
-decreases-loop-x l = suc l.n - l.x
+invariant-loop-x l = Gathers (λ k x. carries (parent_of l.parents) k x && another l.links x) l.initial.flags l.flags l.x

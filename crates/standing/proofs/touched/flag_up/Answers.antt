@@ -5,15 +5,6 @@ use Rattle.standing.proofs.touched.flag_up.Goals as goal
 pub loop-l-init : goal.loop-l-init
 loop-l-init c = climbs-begin _ _ _ _ c.requires.1
 
-pub bounds-flags-l : goal.bounds-flags-l
-bounds-flags-l c = omega (arith, c.loop-l.invariant.within, c.requires.0.few, c.requires.1)
-
-pub parent_at-l-requires : goal.parent_at-l-requires
-parent_at-l-requires c = (c.requires.0, omega (arith, c.loop-l.invariant.within, c.loop-l-test.true))
-
-pub loop-l-smaller : goal.loop-l-smaller
-loop-l-smaller c = omega (arith, c.parent_at-l.ensures.1, c.loop-l-test.true)
-
 pub loop-l-preserved : goal.loop-l-preserved
 loop-l-preserved c =
     rw c.parent_at-l.ensures.0

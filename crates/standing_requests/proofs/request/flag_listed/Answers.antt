@@ -4,15 +4,15 @@ use Rattle.standing_requests.proofs.request.Laws.{flag-start, flag-on, flag_off,
 use Rattle.standing_requests.proofs.request.flag_listed.Goals as goal
 use Rattle.standing_requests.proofs.request.flag_listed.Goals.{then-x-flags, else-x-flags}
 
-pub loop-k-init : goal.loop-k-init
-loop-k-init c = flag-start c.args.l.now c.args.flags.now c.requires
+pub loop-x-init : goal.loop-x-init
+loop-x-init c = flag-start c.args.l.now c.args.flags.now c.requires
 
-pub loop-k-preserved : goal.loop-k-preserved
-loop-k-preserved c =
+pub loop-x-preserved : goal.loop-x-preserved
+loop-x-preserved c =
     elim c.if-x-flags.branch [
-      | then-x-flags w ↦ rw w.flags-is (flag-on c.loop-k.invariant (omega arith) (omega arith))
-      | else-x-flags w ↦ rw w.flags-is (flag_off c.loop-k.invariant (omega arith) (omega arith))
+      | then-x-flags w ↦ rw w.flags-is (flag-on c.loop-x.invariant (omega arith) (omega arith))
+      | else-x-flags w ↦ rw w.flags-is (flag_off c.loop-x.invariant (omega arith) (omega arith))
     ]
 
 pub returns : goal.returns
-returns c = flag-end c.loop-k.invariant (omega arith)
+returns c = flag-end c.loop-x.invariant (omega arith)

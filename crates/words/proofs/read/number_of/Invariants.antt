@@ -1,11 +1,8 @@
 use mathlib.Core.Path.{◌≡◌}
-use Prim.Native.Nat.{◌-◌, ◌^◌, ◌≤◌, ◌<◌}
-use lib.ListN.{drop}
-use Rattle.words.specs.Read.{read_from}
+use Prim.Native.Nat.{◌^◌, ◌≤◌, ◌<◌}
+use lib.ListN.{length, drop}
+use Rattle.words.specs.Read.{read_from, number_of}
 use Rattle.words.proofs.read.number_of.Given as goal
 
-abbrev pub invariant-loop-i : goal.invariant-loop-i
-invariant-loop-i l = (l.i ≤ l.n) × (l.v < 16 ^ l.i) × (read_from l.v (drop l.i l.w) ≡ read_from 0 l.w)
-
-abbrev pub decreases-loop-i : goal.decreases-loop-i
-decreases-loop-i l = l.n - l.i
+abbrev pub invariant-loop-b : goal.invariant-loop-b
+invariant-loop-b l = (length l.w ≤ 16) × (l.v < 16 ^ l.b-index) × (read_from l.v (drop l.b-index l.w) ≡ number_of l.w)

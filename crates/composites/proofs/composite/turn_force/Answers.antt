@@ -1,6 +1,0 @@
-use Rattle.composites.specs.Composite.{force_of}
-use Rattle.composites.proofs.composite.turn_force.Goals as goal
-
-pub returns : goal.returns
-unfolding force_of
-returns c = cc
