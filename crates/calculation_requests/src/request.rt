@@ -11,6 +11,7 @@ ghost use Rattle.calculation_requests.specs.Request.{made_line, idle_by, task, t
 use arm::model::Model;
 use calculations::make::{How, make};
 use dynamics::calculation::Calculation;
+use forward_visits::task::Inputs;
 use readings::buffer::Buffer;
 use readings::lent::{fill, output_buffer};
 use readings::read::{
@@ -40,15 +41,14 @@ fn answer(
     let out = &mut output_buffer()[..sizes.out];
     fill(ws);
     fill(out);
-    let q = inputs.q.items();
-    let qd = inputs.qd.items();
-    let forces = inputs.forces.items();
-    let loaded = inputs.loaded.items();
-    let loads = inputs.loads.items();
-    let last = make(
-        how, c, m.n, &m.parents, &m.kinds, &m.origins, &m.axes, &m.links, &m.rotors, q, qd, forces,
-        loaded, loads, budgets, counts, ws, out,
-    );
+    let inputs = Inputs {
+        q: inputs.q.items(),
+        qd: inputs.qd.items(),
+        forces: inputs.forces.items(),
+        loaded: inputs.loaded.items(),
+        loads: inputs.loads.items(),
+    };
+    let last = make(how, c, &m, &inputs, budgets, counts, ws, out);
     let outcome = last.answer.outcome;
     let counts = &counts[..last.counts];
     put_made(text, at, outcome, counts, ws, out)

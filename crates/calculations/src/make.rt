@@ -1,13 +1,15 @@
 // A calculation made on lent buffers: whole or in portions, once, many times, or from a position that is handed in.
 ghost use Rattle.std.specs.Prelude.{◌≡◌, ◌≤◌, length};
 ghost use Rattle.calls.specs.Position.{start_of};
-ghost use Rattle.forward_visits.specs.Inputs.{inputs_by};
-ghost use Rattle.dynamics.specs.Calculation.{work_by};
+ghost use Rattle.forward_visits.specs.Inputs.{inputs_of};
+ghost use Rattle.dynamics.specs.Calculation.{work_of};
 ghost use Rattle.calculations.specs.Make.{in_portions, begun_in, once_of, times_of, made_of, made_by};
 
+use arm::model::Model;
 use calls::position::{Answer, Position};
 use dynamics;
 use dynamics::calculation::Calculation;
+use forward_visits::task::Inputs;
 
 // So many times on the same buffers, or the portions alone, from this position.
 #[derive(Clone, Copy)]
@@ -28,18 +30,8 @@ pub struct Last {
 fn portions<'a>(
     from: Answer,
     c: Calculation,
-    n: usize,
-    parents: &'a [u8; 32],
-    kinds: &'a [u8; 32],
-    origins: &'a [f64; 224],
-    axes: &'a [f64; 96],
-    links: &'a [f64; 330],
-    rotors: &'a [f64; 32],
-    q: &'a [f64],
-    qd: &'a [f64],
-    forces: &'a [f64],
-    loaded: &'a [u64],
-    loads: &'a [f64],
+    model: &'a Model,
+    inputs: &'a Inputs<'a>,
     budgets: &'a [u64],
     counts: &mut [u64],
     ws: &mut [f64],
@@ -47,30 +39,13 @@ fn portions<'a>(
 ) -> Last
     requires few { length budgets.now ≤ 4096 }
     requires room { length counts.old ≡ 4096 }
-    ensures made { made_by result counts.new ws.new out.new ≡ in_portions (work_by c n parents.now kinds.now origins.now axes.now links.now rotors.now (inputs_by q.now qd.now forces.now loaded.now loads.now)) budgets.now (from, ws.old, out.old) }
+    ensures made { made_by result counts.new ws.new out.new ≡ in_portions (work_of c model.now (inputs_of inputs.now)) budgets.now (from, ws.old, out.old) }
     ensures within { result.counts ≤ length counts.new }
 {
     let mut answer = from;
     for (k, budget) in budgets.iter().enumerate() {
-        answer = dynamics::portion(
-            answer.position,
-            c,
-            n,
-            parents,
-            kinds,
-            origins,
-            axes,
-            links,
-            rotors,
-            q,
-            qd,
-            forces,
-            loaded,
-            loads,
-            ws,
-            out,
-            *budget as usize,
-        );
+        let budget = *budget as usize;
+        answer = dynamics::portion(answer.position, c, model, inputs, ws, out, budget);
         counts[k] = answer.visits as u64;
     }
     Last {
@@ -82,18 +57,8 @@ fn portions<'a>(
 // A start, and where that is not refused a portion for each budget.
 fn divided<'a>(
     c: Calculation,
-    n: usize,
-    parents: &'a [u8; 32],
-    kinds: &'a [u8; 32],
-    origins: &'a [f64; 224],
-    axes: &'a [f64; 96],
-    links: &'a [f64; 330],
-    rotors: &'a [f64; 32],
-    q: &'a [f64],
-    qd: &'a [f64],
-    forces: &'a [f64],
-    loaded: &'a [u64],
-    loads: &'a [f64],
+    model: &'a Model,
+    inputs: &'a Inputs<'a>,
     budgets: &'a [u64],
     counts: &mut [u64],
     ws: &mut [f64],
@@ -101,40 +66,25 @@ fn divided<'a>(
 ) -> Last
     requires few { length budgets.now ≤ 4096 }
     requires room { length counts.old ≡ 4096 }
-    ensures made { made_by result counts.new ws.new out.new ≡ begun_in (work_by c n parents.now kinds.now origins.now axes.now links.now rotors.now (inputs_by q.now qd.now forces.now loaded.now loads.now)) budgets.now (start_of (work_by c n parents.now kinds.now origins.now axes.now links.now rotors.now (inputs_by q.now qd.now forces.now loaded.now loads.now)) ws.old out.old) }
+    ensures made { let w = work_of c model.now (inputs_of inputs.now) in made_by result counts.new ws.new out.new ≡ begun_in w budgets.now (start_of w ws.old out.old) }
     ensures within { result.counts ≤ length counts.new }
 {
-    let begun = dynamics::start(
-        c, n, parents, kinds, origins, axes, links, rotors, q, qd, forces, loaded, loads, ws, out,
-    );
+    let begun = dynamics::start(c, model, inputs, ws, out);
     if begun.position.closed {
         return Last {
             counts: 0,
             answer: begun,
         };
     }
-    portions(
-        begun, c, n, parents, kinds, origins, axes, links, rotors, q, qd, forces, loaded, loads,
-        budgets, counts, ws, out,
-    )
+    portions(begun, c, model, inputs, budgets, counts, ws, out)
 }
 
-// Where no budget is given, the undivided call; else a start and its portions, apart, so that the undivided call copies the model once.
+// Where no budget is given, the undivided call; else a start and its portions.
 #[tactic(auto, using(crate::proofs::make::Laws::once_whole, crate::proofs::make::Laws::once_begun, crate::proofs::make::Laws::first_count))]
 fn once<'a>(
     c: Calculation,
-    n: usize,
-    parents: &'a [u8; 32],
-    kinds: &'a [u8; 32],
-    origins: &'a [f64; 224],
-    axes: &'a [f64; 96],
-    links: &'a [f64; 330],
-    rotors: &'a [f64; 32],
-    q: &'a [f64],
-    qd: &'a [f64],
-    forces: &'a [f64],
-    loaded: &'a [u64],
-    loads: &'a [f64],
+    model: &'a Model,
+    inputs: &'a Inputs<'a>,
     budgets: &'a [u64],
     counts: &mut [u64],
     ws: &mut [f64],
@@ -142,39 +92,23 @@ fn once<'a>(
 ) -> Last
     requires few { length budgets.now ≤ 4096 }
     requires room { length counts.old ≡ 4096 }
-    ensures made { made_by result counts.new ws.new out.new ≡ once_of (work_by c n parents.now kinds.now origins.now axes.now links.now rotors.now (inputs_by q.now qd.now forces.now loaded.now loads.now)) budgets.now ws.old out.old }
+    ensures made { made_by result counts.new ws.new out.new ≡ once_of (work_of c model.now (inputs_of inputs.now)) budgets.now ws.old out.old }
     ensures within { result.counts ≤ length counts.new }
 {
     if budgets.is_empty() {
-        let answer = dynamics::whole(
-            c, n, parents, kinds, origins, axes, links, rotors, q, qd, forces, loaded, loads, ws,
-            out,
-        );
+        let answer = dynamics::whole(c, model, inputs, ws, out);
         counts[0] = answer.visits as u64;
         return Last { counts: 1, answer };
     }
-    divided(
-        c, n, parents, kinds, origins, axes, links, rotors, q, qd, forces, loaded, loads, budgets,
-        counts, ws, out,
-    )
+    divided(c, model, inputs, budgets, counts, ws, out)
 }
 
 #[tactic(auto, using(crate::proofs::make::Laws::again_on, crate::proofs::make::Laws::again_end), unfolding(crate::specs::Make::times_of))]
 fn times<'a>(
     count: u64,
     c: Calculation,
-    n: usize,
-    parents: &'a [u8; 32],
-    kinds: &'a [u8; 32],
-    origins: &'a [f64; 224],
-    axes: &'a [f64; 96],
-    links: &'a [f64; 330],
-    rotors: &'a [f64; 32],
-    q: &'a [f64],
-    qd: &'a [f64],
-    forces: &'a [f64],
-    loaded: &'a [u64],
-    loads: &'a [f64],
+    model: &'a Model,
+    inputs: &'a Inputs<'a>,
     budgets: &'a [u64],
     counts: &mut [u64],
     ws: &mut [f64],
@@ -182,18 +116,12 @@ fn times<'a>(
 ) -> Last
     requires few { length budgets.now ≤ 4096 }
     requires room { length counts.old ≡ 4096 }
-    ensures made { made_by result counts.new ws.new out.new ≡ times_of (work_by c n parents.now kinds.now origins.now axes.now links.now rotors.now (inputs_by q.now qd.now forces.now loaded.now loads.now)) budgets.now count ws.old out.old }
+    ensures made { made_by result counts.new ws.new out.new ≡ times_of (work_of c model.now (inputs_of inputs.now)) budgets.now count ws.old out.old }
     ensures within { result.counts ≤ length counts.new }
 {
-    let mut last = once(
-        c, n, parents, kinds, origins, axes, links, rotors, q, qd, forces, loaded, loads, budgets,
-        counts, ws, out,
-    );
+    let mut last = once(c, model, inputs, budgets, counts, ws, out);
     for _ in 1..count {
-        last = once(
-            c, n, parents, kinds, origins, axes, links, rotors, q, qd, forces, loaded, loads,
-            budgets, counts, ws, out,
-        );
+        last = once(c, model, inputs, budgets, counts, ws, out);
     }
     last
 }
@@ -201,18 +129,8 @@ fn times<'a>(
 pub fn make<'a>(
     how: How,
     c: Calculation,
-    n: usize,
-    parents: &'a [u8; 32],
-    kinds: &'a [u8; 32],
-    origins: &'a [f64; 224],
-    axes: &'a [f64; 96],
-    links: &'a [f64; 330],
-    rotors: &'a [f64; 32],
-    q: &'a [f64],
-    qd: &'a [f64],
-    forces: &'a [f64],
-    loaded: &'a [u64],
-    loads: &'a [f64],
+    model: &'a Model,
+    inputs: &'a Inputs<'a>,
     budgets: &'a [u64],
     counts: &mut [u64],
     ws: &mut [f64],
@@ -220,21 +138,15 @@ pub fn make<'a>(
 ) -> Last
     requires few { length budgets.now ≤ 4096 }
     requires room { length counts.old ≡ 4096 }
-    ensures made { made_by result counts.new ws.new out.new ≡ made_of how (work_by c n parents.now kinds.now origins.now axes.now links.now rotors.now (inputs_by q.now qd.now forces.now loaded.now loads.now)) budgets.now ws.old out.old }
+    ensures made { made_by result counts.new ws.new out.new ≡ made_of how (work_of c model.now (inputs_of inputs.now)) budgets.now ws.old out.old }
     ensures within { result.counts ≤ length counts.new }
     ensures kept { length counts.new ≡ length counts.old }
 {
     match how {
-        How::Times(count) => times(
-            count, c, n, parents, kinds, origins, axes, links, rotors, q, qd, forces, loaded,
-            loads, budgets, counts, ws, out,
-        ),
+        How::Times(count) => times(count, c, model, inputs, budgets, counts, ws, out),
         How::From(position) => {
             let from = position.begun();
-            portions(
-                from, c, n, parents, kinds, origins, axes, links, rotors, q, qd, forces, loaded,
-                loads, budgets, counts, ws, out,
-            )
+            portions(from, c, model, inputs, budgets, counts, ws, out)
         }
     }
 }

@@ -5,7 +5,6 @@ use mathlib.Core.Path.{◌≡◌, sym, ap, ◌∙◌}
 use lib.Ieee.{Float}
 use Rattle.std.specs.Prelude.{None}
 use Rattle.refusals.specs.Refusals.{refusal}
-use Rattle.arm.specs.Model.{bundle}
 use Rattle.arm.specs.declared.model.Model.{Model}
 use Rattle.calls.specs.Position.{Result, whole_of}
 use Rattle.calls.specs.declared.position.Outcome.{Outcome}
@@ -22,7 +21,7 @@ use Rattle.plain_matrix.proofs.Equal.{seen, same-but-10}
 use Rattle.plain_matrix.proofs.plain_matrix.Reads as plain
 use Rattle.claims.specs.Engines.{SameAnswer}
 
--- what is asked: the calculation, the model's lists, q, and the output's numbers
+-- what is asked: the calculation, the model, q, and the output's numbers
 abbrev pub Question : Type 0
 Question = Calculation × Model × List Float × List Float
 
@@ -38,10 +37,10 @@ pub as-matrix : (c : Calculation) (mode : Mode) (m : Model) (i : Inputs) (ws out
 as-matrix c mode m i ws out e = ap (λ (c : Calculation). whole_of (work_of c m i) ws out) e
 
 pub engines-agree : SameAnswer {T = Question} {S = Outcome × List Float} whole.Post plain.Post
-    (λ κs a. (a.0, bundle a.1.0 a.1.1.0.now a.1.1.1.0.now a.1.1.1.1.0.now a.1.1.1.1.1.0.now a.1.1.1.1.1.1.0.now a.1.1.1.1.1.1.1.0.now, a.1.1.1.1.1.1.1.1.0.now, a.1.1.1.1.1.1.1.1.1.1.1.1.1.1.0.now))
-    (λ κs b. (Matrix b.0, bundle b.1.0 b.1.1.0.now b.1.1.1.0.now b.1.1.1.1.0.now b.1.1.1.1.1.0.now b.1.1.1.1.1.1.0.now b.1.1.1.1.1.1.1.0.now, b.1.1.1.1.1.1.1.1.0.now, b.1.1.1.1.1.1.1.1.1.0.now))
-    (λ κs r e. (r.outcome, e.1.1.1.1.1.1.1.1.1.1.1.1.1.1.0.now))
-    (λ κs r e. (r, e.1.1.1.1.1.1.1.1.1.0.now))
+    (λ κs a. (a.0, a.1.0.now, a.1.1.0.now.q.now, a.1.1.1.1.0.now))
+    (λ κs b. (Matrix b.0, b.1.0.now, b.1.1.0.now, b.1.1.1.0.now))
+    (λ κs r e. (r.outcome, e.1.1.1.1.0.now))
+    (λ κs r e. (r, e.1.1.1.0.now))
     (λ s. s.0 ≡ Refused (refusal 10 None))
 engines-agree κs λs a b r q e f asked d h =
     joined b.0 _ _ _ _ _ _ _ (ap (λ (x : Question). x.1) asked) (ap (λ (x : Question). x.2) asked) (ap (λ (x : Question). x.3) asked)

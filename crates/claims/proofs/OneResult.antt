@@ -42,22 +42,22 @@ column-one κs a r s e f = one-result
 abbrev and-workspace : Result → Answer × List Float
 and-workspace x = (x.0, x.1)
 
-pub start-one : OneResult {S = Answer × List Float} start.Post (λ κs r e. (r, e.1.1.1.1.1.1.1.1.1.1.1.1.1.0.now))
+pub start-one : OneResult {S = Answer × List Float} start.Post (λ κs r e. (r, e.1.1.1.0.now))
 start-one κs a r s e f d h = ap and-workspace (one-result d h)
 
-pub portion-one : OneResult {S = Result} portion.Post (λ κs r e. (r, e.1.1.1.1.1.1.1.1.1.1.1.1.1.1.0.now, e.1.1.1.1.1.1.1.1.1.1.1.1.1.1.1.0.now))
+pub portion-one : OneResult {S = Result} portion.Post (λ κs r e. (r, e.1.1.1.1.0.now, e.1.1.1.1.1.0.now))
 portion-one κs a r s e f = one-result
 
-pub whole-one : OneResult {S = Result} whole.Post (λ κs r e. (r, e.1.1.1.1.1.1.1.1.1.1.1.1.1.0.now, e.1.1.1.1.1.1.1.1.1.1.1.1.1.1.0.now))
+pub whole-one : OneResult {S = Result} whole.Post (λ κs r e. (r, e.1.1.1.0.now, e.1.1.1.1.0.now))
 whole-one κs a r s e f = one-result
 
 -- the outcome and the output of the plain matrix
-pub plain-matrix-one : OneResult {S = Outcome × List Float} plain-matrix.Post (λ κs r e. (r, e.1.1.1.1.1.1.1.1.1.0.now))
+pub plain-matrix-one : OneResult {S = Outcome × List Float} plain-matrix.Post (λ κs r e. (r, e.1.1.1.0.now))
 plain-matrix-one κs a r s e f = one-result
 
 -- how many marks there are, and the verdict and the marks
 pub marks-room-one : OneResult marks-room.Post (λ κs r e. r)
 marks-room-one κs a r s e f d h = one-result d.0 h.0
 
-pub stands-one : OneResult {S = Verdict × List Bool} stands.Post (λ κs r e. (r, e.1.1.1.1.1.1.1.1.0.now))
+pub stands-one : OneResult {S = Verdict × List Bool} stands.Post (λ κs r e. (r, e.1.1.1.0.now))
 stands-one κs a r s e f = one-result

@@ -17,7 +17,7 @@ use Rattle.refusals.proofs.Flags.{neither}
 use Rattle.slots.specs.Slots.{vec3_at}
 use Rattle.slots.proofs.Blocks.{split}
 use Rattle.arm.specs.Joint.{is_fixed, motion_by, frame_of}
-use Rattle.arm.specs.Model.{bundle, parent_of, kind_of, motion_of, joint_of, Tree}
+use Rattle.arm.specs.Model.{parent_of, kind_of, motion_of, joint_of, Tree}
 use Rattle.arm.specs.Topology.{actives_of}
 use Rattle.arm.specs.declared.model.Model.{Model}
 use Rattle.calls.specs.Plan.{plan_by, plan_of}
@@ -37,8 +37,9 @@ use Rattle.plain_matrix.specs.PlainMatrix.{unless, plain_verdict, plain_entries,
 use Rattle.plain_matrix.proofs.Equal.{seen, same-but-10}
 use Rattle.plain_matrix.proofs.Verdicts.{passed}
 use Rattle.plain_matrix.proofs.Stored.{list-here, list-there}
-use Rattle.standing.specs.Standing.{Changes, changes, another, reframed, stands_between, marks_of, marked_by, stands_call}
+use Rattle.standing.specs.Standing.{another, reframed, stands_between, marks_of, marked_by, stands_call}
 use Rattle.standing.specs.Kept.{Kept}
+use Rattle.standing.specs.declared.changes.Changes.{Changes}
 use Rattle.standing.proofs.Trees.{carries-le}
 use Rattle.standing.proofs.Marked.{actives-same, marked-same}
 use Rattle.standing.proofs.stands.Reads as stands
@@ -202,8 +203,8 @@ module _ (c : Calculation) (mode : Mode) (m : Model) (i : Inputs) (ws out : List
   whole-made p d = by-fast mode m i.q out ws (p ∙ as-matrix c mode m i ws out d)
 
 pub whole-entries : StoredEntries whole.Post
-    (λ κs a. (a.0, bundle a.1.0 a.1.1.0.now a.1.1.1.0.now a.1.1.1.1.0.now a.1.1.1.1.1.0.now a.1.1.1.1.1.1.0.now a.1.1.1.1.1.1.1.0.now, a.1.1.1.1.1.1.1.1.0.now))
-    (λ κs r e. (r.outcome, e.1.1.1.1.1.1.1.1.1.1.1.1.1.1.0.now))
+    (λ κs a. (a.0, a.1.0.now, a.1.1.0.now.q.now))
+    (λ κs r e. (r.outcome, e.1.1.1.1.0.now))
 whole-entries =
     record {
       stands = λ κs λs a b r s e f p q mode mode' d d' u v. entry-stands mode mode' _ _ _ _ _ _ (whole-made a.0 mode _ _ _ _ p d u) (whole-made b.0 mode' _ _ _ _ q d' v);
@@ -212,12 +213,12 @@ whole-entries =
     }
 
 pub marked-stands : MarksKeep whole.Post stands.Post
-    (λ κs a. (a.0, bundle a.1.0 a.1.1.0.now a.1.1.1.0.now a.1.1.1.1.0.now a.1.1.1.1.1.0.now a.1.1.1.1.1.1.0.now a.1.1.1.1.1.1.1.0.now, a.1.1.1.1.1.1.1.1.0.now))
-    (λ κs r e. (r.outcome, e.1.1.1.1.1.1.1.1.1.1.1.1.1.1.0.now))
-    (λ κs c. (c.0, c.1.0, c.1.1.0.now, c.1.1.1.0.now, changes c.1.1.1.1.0.now c.1.1.1.1.1.0.now c.1.1.1.1.1.1.0.now c.1.1.1.1.1.1.1.0.now))
-    (λ κs v g. (v, g.1.1.1.1.1.1.1.1.0.now))
+    (λ κs a. (a.0, a.1.0.now, a.1.1.0.now.q.now))
+    (λ κs r e. (r.outcome, e.1.1.1.1.0.now))
+    (λ κs c. (c.0, c.1.0.now.n, c.1.0.now.parents, c.1.0.now.kinds, c.1.1.0.now))
+    (λ κs v g. (v, g.1.1.1.0.now))
 marked-stands κs λs μs a b c r s v e f g p q w mode mode' d d' tells u u' =
-    told-marked mode mode' _ _ _ _ _ _ (c.0, c.1.0, c.1.1.0.now, c.1.1.1.0.now, changes c.1.1.1.1.0.now c.1.1.1.1.1.0.now c.1.1.1.1.1.1.0.now c.1.1.1.1.1.1.1.0.now) _ (whole-made a.0 mode _ _ _ _ p d u) (whole-made b.0 mode' _ _ _ _ q d' u') w tells
+    told-marked mode mode' _ _ _ _ _ _ (c.0, c.1.0.now.n, c.1.0.now.parents, c.1.0.now.kinds, c.1.1.0.now) _ (whole-made a.0 mode _ _ _ _ p d u) (whole-made b.0 mode' _ _ _ _ q d' u') w tells
 
 -- ---- and the plain one's
 
@@ -230,8 +231,8 @@ module _ (own mode : Mode) (m : Model) (q out : List Float) {x : Outcome × List
   plain-made p d = by-plain mode m q out (p ∙ ap (λ (k : Mode). plain_call k m q out) (ap matrix_mode d))
 
 pub plain-matrix-entries : StoredEntries plain.Post
-    (λ κs a. (Matrix a.0, bundle a.1.0 a.1.1.0.now a.1.1.1.0.now a.1.1.1.1.0.now a.1.1.1.1.1.0.now a.1.1.1.1.1.1.0.now a.1.1.1.1.1.1.1.0.now, a.1.1.1.1.1.1.1.1.0.now))
-    (λ κs r e. (r, e.1.1.1.1.1.1.1.1.1.0.now))
+    (λ κs a. (Matrix a.0, a.1.0.now, a.1.1.0.now))
+    (λ κs r e. (r, e.1.1.1.0.now))
 plain-matrix-entries =
     record {
       stands = λ κs λs a b r s e f p q mode mode' d d' u v. entry-stands mode mode' _ _ _ _ _ _ (plain-made a.0 mode _ _ _ p d u) (plain-made b.0 mode' _ _ _ q d' v);
@@ -240,9 +241,9 @@ plain-matrix-entries =
     }
 
 pub plain-marked-stands : MarksKeep plain.Post stands.Post
-    (λ κs a. (Matrix a.0, bundle a.1.0 a.1.1.0.now a.1.1.1.0.now a.1.1.1.1.0.now a.1.1.1.1.1.0.now a.1.1.1.1.1.1.0.now a.1.1.1.1.1.1.1.0.now, a.1.1.1.1.1.1.1.1.0.now))
-    (λ κs r e. (r, e.1.1.1.1.1.1.1.1.1.0.now))
-    (λ κs c. (c.0, c.1.0, c.1.1.0.now, c.1.1.1.0.now, changes c.1.1.1.1.0.now c.1.1.1.1.1.0.now c.1.1.1.1.1.1.0.now c.1.1.1.1.1.1.1.0.now))
-    (λ κs v g. (v, g.1.1.1.1.1.1.1.1.0.now))
+    (λ κs a. (Matrix a.0, a.1.0.now, a.1.1.0.now))
+    (λ κs r e. (r, e.1.1.1.0.now))
+    (λ κs c. (c.0, c.1.0.now.n, c.1.0.now.parents, c.1.0.now.kinds, c.1.1.0.now))
+    (λ κs v g. (v, g.1.1.1.0.now))
 plain-marked-stands κs λs μs a b c r s v e f g p q w mode mode' d d' tells u u' =
-    told-marked mode mode' _ _ _ _ _ _ (c.0, c.1.0, c.1.1.0.now, c.1.1.1.0.now, changes c.1.1.1.1.0.now c.1.1.1.1.1.0.now c.1.1.1.1.1.1.0.now c.1.1.1.1.1.1.1.0.now) _ (plain-made a.0 mode _ _ _ p d u) (plain-made b.0 mode' _ _ _ q d' u') w tells
+    told-marked mode mode' _ _ _ _ _ _ (c.0, c.1.0.now.n, c.1.0.now.parents, c.1.0.now.kinds, c.1.1.0.now) _ (plain-made a.0 mode _ _ _ p d u) (plain-made b.0 mode' _ _ _ q d' u') w tells

@@ -24,7 +24,8 @@ use Rattle.calls.specs.declared.position.Outcome.TheVariants as outcome
 use Rattle.mass_matrix.specs.MassMatrix.{mass_matrix}
 use Rattle.mass_matrix.specs.declared.mass_matrix.Mode.TheVariants as matrix
 use Rattle.plain_matrix.specs.PlainMatrix.{plain_call}
-use Rattle.standing.specs.Standing.{Changes, changes, stands_call}
+use Rattle.standing.specs.Standing.{changes, stands_call}
+use Rattle.standing.specs.declared.changes.Changes.{Changes}
 use Rattle.forward_dynamics.specs.ForwardDynamics.{forward_dynamics}
 use Rattle.forward_slots.specs.Loads.{load_of}
 use Rattle.forward_visits.specs.Inputs.{inputs_by}

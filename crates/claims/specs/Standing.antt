@@ -16,7 +16,8 @@ use Rattle.mass_matrix.specs.MassMatrix.{floats}
 use Rattle.mass_matrix.specs.declared.mass_matrix.Mode.{Mode}
 use Rattle.dynamics.specs.declared.calculation.Calculation.{Calculation}
 use Rattle.dynamics.specs.declared.calculation.Calculation.TheVariants.{Matrix}
-use Rattle.standing.specs.Standing.{Changes, another}
+use Rattle.standing.specs.Standing.{another}
+use Rattle.standing.specs.declared.changes.Changes.{Changes}
 
 -- the number that a matrix has in joint I's row and joint J's column
 unfoldable pub stored : Mode → Model → List Float → ℕ → ℕ → Float

@@ -10,7 +10,6 @@ use Rattle.spatial.specs.declared.twist.Twist.{Twist}
 use Rattle.std.specs.Prelude.{Ok, Err, OnOk}
 use Rattle.refusals.specs.Refusals.{Verdict, or_else, fine}
 use Rattle.slots.specs.Slots.{cleared}
-use Rattle.arm.specs.Model.{bundle}
 use Rattle.arm.specs.Topology.{actives_of, active_numbers}
 use Rattle.arm.specs.declared.model.Model.{Model}
 use Rattle.arm.proofs.topology.Counts.{actives-le}
@@ -34,7 +33,7 @@ use Rattle.forward_dynamics.specs.ForwardDynamics.{forward_dynamics}
 use Rattle.forward_visits.specs.Inputs.{Inputs}
 use Rattle.forward_dynamics.specs.declared.forward_dynamics.Mode.{Mode as Root}
 use Rattle.forward_dynamics.proofs.Ready as forward-ready
-use Rattle.dynamics.specs.Calculation.{work_of, work_by, is_matrix, floats, verdict_of}
+use Rattle.dynamics.specs.Calculation.{work_of, is_matrix, floats, verdict_of}
 use Rattle.dynamics.specs.declared.calculation.Calculation.{Calculation}
 use Rattle.dynamics.specs.declared.calculation.Calculation.TheVariants.{Matrix, Forward}
 
@@ -70,35 +69,39 @@ pub ruleset counted = (actives-le)
 
 -- ---- a run
 
-module _ (c : Calculation) (n : ℕ) (parents kinds : List ℕ) (a : ℕ) {f : Bool} {p : Plan} (ea : a ≡ actives_of kinds n) (ef : f ≡ floats c) (ep : p ≡ plan_by f n a) where
+module _ (c : Calculation) (m : Model) (a : ℕ) {f : Bool} {p : Plan} (ea : a ≡ actives_of m.kinds m.n) (ef : f ≡ floats c) (ep : p ≡ plan_by f m.n a) where
   -- what it asks for
-  module _ (numbers : List ℕ) (i : Inputs) (ws out : ℕ) (from : Position) (en : numbers ≡ active_numbers kinds) (v : verdict_of c n parents kinds i ws out ≡ fine)
-      (w : Within (is_matrix c) (plan_by (floats c) n a) from) where
-    pub ready-matrix : {mode : Mode} → c ≡ Matrix mode → matrix.Ready p parents kinds numbers (length i.q) ws out × Within true p from
+  pub planned-joints : m.n ≡ p.n
+  unfolding plan_by
+  planned-joints = rw ep
+
+  module _ (numbers : List ℕ) (i : Inputs) (ws out : ℕ) (from : Position) (en : numbers ≡ active_numbers m.kinds) (v : verdict_of c m.n m.parents m.kinds i ws out ≡ fine)
+      (w : Within (is_matrix c) (plan_by (floats c) m.n a) from) where
+    pub ready-matrix : {mode : Mode} → c ≡ Matrix mode → matrix.Ready p m.parents m.kinds numbers (length i.q) ws out × Within true p from
     ready-matrix {mode = mode} ec =
-        let ready = matrix-ready.plan-ready (matrix.floats mode) (matrix.rotation_of mode) n parents kinds i.q ws out (rw ec at v) numbers a _ en ea refl in
+        let ready = matrix-ready.plan-ready (matrix.floats mode) (matrix.rotation_of mode) m.n m.parents m.kinds i.q ws out (rw ec at v) numbers a _ en ea refl in
         rw (ep, ef, ec) (ready, rw ec at w)
 
-    pub ready-forward : {mode : Root} → c ≡ Forward mode → forward.Ready p parents kinds numbers i ws out × Within false p from
+    pub ready-forward : {mode : Root} → c ≡ Forward mode → forward.Ready p m.parents m.kinds numbers i ws out × Within false p from
     ready-forward {mode = mode} ec =
-        let ready = forward-ready.plan-ready (forward.floats mode) (forward.rotation_of mode) (forward.base_velocity mode) n parents kinds i ws out (rw ec at v) numbers a _ en ea refl in
+        let ready = forward-ready.plan-ready (forward.floats mode) (forward.rotation_of mode) (forward.base_velocity mode) m.n m.parents m.kinds i ws out (rw ec at v) numbers a _ en ea refl in
         rw (ep, ef, ec) (ready, rw ec at w)
 
   -- and what it answers
-  module _ (origins axes links rotors : List Float) (i : Inputs) (budget : ℕ) (from : Position) (ws out : List Float) (s : Progress) {t : Answer} (et : t ≡ answer_by from s) {ws' out' : List Float} where
+  module _ (i : Inputs) (budget : ℕ) (from : Position) (ws out : List Float) (s : Progress) {t : Answer} (et : t ≡ answer_by from s) {ws' out' : List Float} where
     pub ran-matrix : {mode : Mode} (r : Quaternion) → c ≡ Matrix mode → r ≡ matrix.rotation_of mode
-        → (s, ws', out') ≡ iterate (step_by (matrix-visits.visits_by p r parents kinds origins axes links rotors i.q) (matrix_place p.n)) budget (opening from, ws, out)
-        → (t, ws', out') ≡ ran (work_by c n parents kinds origins axes links rotors i) budget from ws out
+        → (s, ws', out') ≡ iterate (step_by (matrix-visits.visit_of p r m i.q) (matrix_place p.n)) budget (opening from, ws, out)
+        → (t, ws', out') ≡ ran (work_of c m i) budget from ws out
     unfolding mass_matrix plan_by
     ran-matrix {mode = mode} r ec er es =
-        let run : (s, ws', out') ≡ iterate (step_of (mass_matrix mode (bundle n parents kinds origins axes links rotors) i.q)) budget (opening from, ws, out) = rw (ep, ef, ec, ea, er) at es in
+        let run : (s, ws', out') ≡ iterate (step_of (mass_matrix mode m i.q)) budget (opening from, ws, out) = rw (ep, ef, ec, ea, er) at es in
         rw (ec, et) (ap (λ (k : State). (answer_by from k.0, k.1, k.2)) run)
 
     pub ran-forward : {mode : Root} (rotation : Quaternion) (base velocity : Twist) → c ≡ Forward mode → rotation ≡ forward.rotation_of mode → base ≡ forward.base_velocity mode
         → velocity ≡ root_velocity rotation base
-        → (s, ws', out') ≡ iterate (step_by (forward-visits.visits_by p rotation velocity parents kinds origins axes links rotors i) (results_place p.n)) budget (opening from, ws, out)
-        → (t, ws', out') ≡ ran (work_by c n parents kinds origins axes links rotors i) budget from ws out
+        → (s, ws', out') ≡ iterate (step_by (forward-visits.visit_of p rotation velocity m i.q i.qd i.forces i.loaded i.loads) (results_place p.n)) budget (opening from, ws, out)
+        → (t, ws', out') ≡ ran (work_of c m i) budget from ws out
     unfolding forward_dynamics plan_by
     ran-forward {mode = mode} rotation base velocity ec er eb ev es =
-        let run : (s, ws', out') ≡ iterate (step_of (forward_dynamics mode (bundle n parents kinds origins axes links rotors) i)) budget (opening from, ws, out) = rw (ep, ef, ec, ea, ev, er, eb) at es in
+        let run : (s, ws', out') ≡ iterate (step_of (forward_dynamics mode m i)) budget (opening from, ws, out) = rw (ep, ef, ec, ea, ev, er, eb) at es in
         rw (ec, et) (ap (λ (k : State). (answer_by from k.0, k.1, k.2)) run)

@@ -1,4 +1,4 @@
-// The calls of either calculation: start, portion and the undivided call. A model's lists are lent: by value it would be copied at each call.
+// The calls of either calculation: start, portion and the undivided call. A model is lent: by value it would be copied at each call.
 #![tactic(auto)]
 
 pub mod calculation;
@@ -9,41 +9,39 @@ ghost use Rattle.arm.specs.Model.{Good};
 ghost use Rattle.arm.specs.Topology.{actives_of, active_numbers};
 ghost use Rattle.calls.specs.Plan.{plan_by, Within};
 ghost use Rattle.calls.specs.Position.{position_verdict, ran, start_of, portion_of, whole_of};
-ghost use Rattle.forward_visits.specs.Inputs.{inputs_by};
-ghost use Rattle.dynamics.specs.Calculation.{work_by, is_matrix, floats, verdict_of};
+ghost use Rattle.forward_visits.specs.Inputs.{inputs_of};
+ghost use Rattle.dynamics.specs.Calculation.{work_of, is_matrix, floats, verdict_of};
 
 use crate::calculation::Calculation;
+use arm::model::Model;
 use arm::topology;
 use articulated::root;
 use calls::position::{Answer, Position};
 use calls::{plan, position};
 use forward_dynamics::{checks as forward_checks, run as forward};
+use forward_passes::fitted::Fitted;
+use forward_visits::task::{Inputs, Task};
 use mass_matrix::{checks as matrix_checks, run as matrix};
+use matrix_columns::fitted::Fitted as MatrixFitted;
+use matrix_visits::task::Task as MatrixTask;
 use refusals::Refusal;
 
 // The checks to 22.
-fn judged<'a>(
+fn judged(
     c: Calculation,
-    n: usize,
-    parents: &'a [u8; 32],
-    kinds: &'a [u8; 32],
-    numbers: &'a [u8; 33],
-    q: &'a [f64],
-    qd: &'a [f64],
-    forces: &'a [f64],
-    loaded: &'a [u64],
-    loads: &'a [f64],
+    model: &Model,
+    numbers: &[u8; 33],
+    inputs: &Inputs,
     ws: usize,
     out: usize,
 ) -> Result<(), Refusal>
-    requires { numbers.now ≡ active_numbers kinds.now }
-    ensures verdict { result ≡ verdict_of c n parents.now kinds.now (inputs_by q.now qd.now forces.now loaded.now loads.now) ws out }
-    ensures good { OnOk result (Good n parents.now kinds.now) }
+    requires { numbers.now ≡ active_numbers model.now.kinds }
+    ensures verdict { let m = model.now in result ≡ verdict_of c m.n m.parents m.kinds (inputs_of inputs.now) ws out }
+    ensures good { let m = model.now in OnOk result (Good m.n m.parents m.kinds) }
 {
     match c {
         Calculation::Matrix(mode) => {
-            let r = mode.rotation();
-            matrix_checks::judged(mode.floats(), r, n, parents, kinds, numbers, q, ws, out)
+            matrix_checks::judged(mode, model, numbers, inputs.q, ws, out)
         }
         Calculation::Forward(mode) => {
             let rotation = mode.rotation();
@@ -52,15 +50,9 @@ fn judged<'a>(
                 mode.floats(),
                 rotation,
                 base,
-                n,
-                parents,
-                kinds,
+                model,
                 numbers,
-                q,
-                qd,
-                forces,
-                loaded,
-                loads,
+                inputs,
                 ws,
                 out,
             )
@@ -70,32 +62,24 @@ fn judged<'a>(
 
 // The checks of a portion.
 #[tactic(auto, using(crate::proofs::Works::counted), unfolding(refusals::specs::Refusals::or_else))]
-fn judged_at<'a>(
+fn judged_at(
     position: Position,
     c: Calculation,
-    n: usize,
-    parents: &'a [u8; 32],
-    kinds: &'a [u8; 32],
-    numbers: &'a [u8; 33],
-    q: &'a [f64],
-    qd: &'a [f64],
-    forces: &'a [f64],
-    loaded: &'a [u64],
-    loads: &'a [f64],
+    model: &Model,
+    numbers: &[u8; 33],
+    inputs: &Inputs,
     ws: usize,
     out: usize,
 ) -> Result<(), Refusal>
-    requires { numbers.now ≡ active_numbers kinds.now }
-    ensures verdict { result ≡ or_else (verdict_of c n parents.now kinds.now (inputs_by q.now qd.now forces.now loaded.now loads.now) ws out) (position_verdict (is_matrix c) (floats c) n (actives_of kinds.now n) position) }
-    ensures good { OnOk result (Good n parents.now kinds.now) }
-    ensures passed { OnOk result (verdict_of c n parents.now kinds.now (inputs_by q.now qd.now forces.now loaded.now loads.now) ws out ≡ fine) }
-    ensures within { OnOk result (Within (is_matrix c) (plan_by (floats c) n (actives_of kinds.now n)) position) }
+    requires { numbers.now ≡ active_numbers model.now.kinds }
+    ensures verdict { let m = model.now in result ≡ or_else (verdict_of c m.n m.parents m.kinds (inputs_of inputs.now) ws out) (position_verdict (is_matrix c) (floats c) m.n (actives_of m.kinds m.n) position) }
+    ensures good { let m = model.now in OnOk result (Good m.n m.parents m.kinds) }
+    ensures passed { let m = model.now in OnOk result (verdict_of c m.n m.parents m.kinds (inputs_of inputs.now) ws out ≡ fine) }
+    ensures within { let m = model.now in OnOk result (Within (is_matrix c) (plan_by (floats c) m.n (actives_of m.kinds m.n)) position) }
 {
-    judged(
-        c, n, parents, kinds, numbers, q, qd, forces, loaded, loads, ws, out,
-    )?;
-    let a = topology::number_at(kinds, numbers, n);
-    position.judged(c.is_matrix(), c.floats(), n, a)
+    judged(c, model, numbers, inputs, ws, out)?;
+    let a = topology::number_at(&model.kinds, numbers, model.n);
+    position.judged(c.is_matrix(), c.floats(), model.n, a)
 }
 
 // What at most `budget` visits from a position answer, once the checks have passed.
@@ -103,108 +87,69 @@ fn judged_at<'a>(
 fn ran<'a>(
     c: Calculation,
     a: usize,
-    n: usize,
-    parents: &'a [u8; 32],
-    kinds: &'a [u8; 32],
-    origins: &'a [f64; 224],
-    axes: &'a [f64; 96],
-    links: &'a [f64; 330],
-    rotors: &'a [f64; 32],
+    model: &'a Model,
     numbers: &'a [u8; 33],
-    q: &'a [f64],
-    qd: &'a [f64],
-    forces: &'a [f64],
-    loaded: &'a [u64],
-    loads: &'a [f64],
+    inputs: &'a Inputs<'a>,
     ws: &mut [f64],
     out: &mut [f64],
     from: Position,
     budget: usize,
 ) -> Answer
-    requires numbered { numbers.now ≡ active_numbers kinds.now }
-    requires counted { a ≡ actives_of kinds.now n }
-    requires good { Good n parents.now kinds.now }
-    requires judged { verdict_of c n parents.now kinds.now (inputs_by q.now qd.now forces.now loaded.now loads.now) (length ws.old) (length out.old) ≡ fine }
-    requires within { Within (is_matrix c) (plan_by (floats c) n a) from }
-    ensures { (result, ws.new, out.new) ≡ ran (work_by c n parents.now kinds.now origins.now axes.now links.now rotors.now (inputs_by q.now qd.now forces.now loaded.now loads.now)) budget from ws.old out.old }
+    requires numbered { numbers.now ≡ active_numbers model.now.kinds }
+    requires counted { a ≡ actives_of model.now.kinds model.now.n }
+    requires good { let m = model.now in Good m.n m.parents m.kinds }
+    requires judged { let m = model.now in verdict_of c m.n m.parents m.kinds (inputs_of inputs.now) (length ws.old) (length out.old) ≡ fine }
+    requires within { Within (is_matrix c) (plan_by (floats c) model.now.n a) from }
+    ensures { (result, ws.new, out.new) ≡ ran (work_of c model.now (inputs_of inputs.now)) budget from ws.old out.old }
 {
-    let p = plan::planned(c.floats(), n, a);
+    let plan = plan::planned(c.floats(), model.n, a);
     match c {
         Calculation::Matrix(mode) => {
-            let s = matrix::run(
-                p,
-                mode.rotation(),
-                parents,
-                kinds,
-                origins,
-                axes,
-                links,
-                rotors,
+            let rotation = mode.rotation();
+            let fitted = MatrixFitted {
+                plan,
+                rotation,
+                model,
                 numbers,
-                q,
-                ws,
-                out,
-                from,
-                budget,
-            );
-            from.answer(s)
+            };
+            let task = MatrixTask {
+                fitted,
+                q: inputs.q,
+            };
+            from.answer(matrix::run(&task, ws, out, from, budget))
         }
         Calculation::Forward(mode) => {
             let rotation = mode.rotation();
             let velocity = root::root_velocity(rotation, mode.base());
-            let s = forward::run(
-                p, rotation, velocity, parents, kinds, origins, axes, links, rotors, numbers, q,
-                qd, forces, loaded, loads, ws, out, from, budget,
-            );
-            from.answer(s)
+            let arm = Fitted {
+                plan,
+                model,
+                numbers,
+            };
+            let task = Task {
+                arm,
+                rotation,
+                velocity,
+                inputs: *inputs,
+            };
+            from.answer(forward::run(&task, ws, out, from, budget))
         }
     }
 }
 
 // All checks to 22, the workspace +0.0, and position 0.
-pub fn start<'a>(
-    c: Calculation,
-    n: usize,
-    parents: &'a [u8; 32],
-    kinds: &'a [u8; 32],
-    origins: &'a [f64; 224],
-    axes: &'a [f64; 96],
-    links: &'a [f64; 330],
-    rotors: &'a [f64; 32],
-    q: &'a [f64],
-    qd: &'a [f64],
-    forces: &'a [f64],
-    loaded: &'a [u64],
-    loads: &'a [f64],
-    ws: &mut [f64],
-    out: &[f64],
-) -> Answer
-    ensures { (result, ws.new, out.now) ≡ start_of (work_by c n parents.now kinds.now origins.now axes.now links.now rotors.now (inputs_by q.now qd.now forces.now loaded.now loads.now)) ws.old out.now }
+pub fn start(c: Calculation, model: &Model, inputs: &Inputs, ws: &mut [f64], out: &[f64]) -> Answer
+    ensures { (result, ws.new, out.now) ≡ start_of (work_of c model.now (inputs_of inputs.now)) ws.old out.now }
 {
     let matrix = c.is_matrix();
     let floating = c.floats();
-    let numbers = topology::active_numbers(kinds);
-    let room = ws.len();
-    let v = judged(
-        c,
-        n,
-        parents,
-        kinds,
-        &numbers,
-        q,
-        qd,
-        forces,
-        loaded,
-        loads,
-        room,
-        out.len(),
-    );
-    match v {
+    let numbers = topology::active_numbers(&model.kinds);
+    match judged(c, model, &numbers, inputs, ws.len(), out.len()) {
         Err(refusal) => Position::shut(matrix, floating).refused(refusal),
         Ok(()) => {
-            let a = topology::number_at(kinds, &numbers, n);
+            let a = topology::number_at(&model.kinds, &numbers, model.n);
             slots::clear(ws);
-            Position::fresh(matrix, floating, n, a).begun()
+            Position::fresh(matrix, floating, model.n, a).begun()
         }
     }
 }
@@ -213,49 +158,20 @@ pub fn start<'a>(
 pub fn portion<'a>(
     position: Position,
     c: Calculation,
-    n: usize,
-    parents: &'a [u8; 32],
-    kinds: &'a [u8; 32],
-    origins: &'a [f64; 224],
-    axes: &'a [f64; 96],
-    links: &'a [f64; 330],
-    rotors: &'a [f64; 32],
-    q: &'a [f64],
-    qd: &'a [f64],
-    forces: &'a [f64],
-    loaded: &'a [u64],
-    loads: &'a [f64],
+    model: &'a Model,
+    inputs: &'a Inputs<'a>,
     ws: &mut [f64],
     out: &mut [f64],
     budget: usize,
 ) -> Answer
-    ensures { (result, ws.new, out.new) ≡ portion_of (work_by c n parents.now kinds.now origins.now axes.now links.now rotors.now (inputs_by q.now qd.now forces.now loaded.now loads.now)) budget position ws.old out.old }
+    ensures { (result, ws.new, out.new) ≡ portion_of (work_of c model.now (inputs_of inputs.now)) budget position ws.old out.old }
 {
-    let numbers = topology::active_numbers(kinds);
-    let room = ws.len();
-    let v = judged_at(
-        position,
-        c,
-        n,
-        parents,
-        kinds,
-        &numbers,
-        q,
-        qd,
-        forces,
-        loaded,
-        loads,
-        room,
-        out.len(),
-    );
-    match v {
+    let numbers = topology::active_numbers(&model.kinds);
+    match judged_at(position, c, model, &numbers, inputs, ws.len(), out.len()) {
         Err(refusal) => position.refused(refusal),
         Ok(()) => {
-            let a = topology::number_at(kinds, &numbers, n);
-            ran(
-                c, a, n, parents, kinds, origins, axes, links, rotors, &numbers, q, qd, forces,
-                loaded, loads, ws, out, position, budget,
-            )
+            let a = topology::number_at(&model.kinds, &numbers, model.n);
+            ran(c, a, model, &numbers, inputs, ws, out, position, budget)
         }
     }
 }
@@ -264,52 +180,24 @@ pub fn portion<'a>(
 #[tactic(auto, using(crate::proofs::Works::counted))]
 pub fn whole<'a>(
     c: Calculation,
-    n: usize,
-    parents: &'a [u8; 32],
-    kinds: &'a [u8; 32],
-    origins: &'a [f64; 224],
-    axes: &'a [f64; 96],
-    links: &'a [f64; 330],
-    rotors: &'a [f64; 32],
-    q: &'a [f64],
-    qd: &'a [f64],
-    forces: &'a [f64],
-    loaded: &'a [u64],
-    loads: &'a [f64],
+    model: &'a Model,
+    inputs: &'a Inputs<'a>,
     ws: &mut [f64],
     out: &mut [f64],
 ) -> Answer
-    ensures { (result, ws.new, out.new) ≡ whole_of (work_by c n parents.now kinds.now origins.now axes.now links.now rotors.now (inputs_by q.now qd.now forces.now loaded.now loads.now)) ws.old out.old }
+    ensures { (result, ws.new, out.new) ≡ whole_of (work_of c model.now (inputs_of inputs.now)) ws.old out.old }
 {
     let matrix = c.is_matrix();
     let floating = c.floats();
-    let numbers = topology::active_numbers(kinds);
-    let room = ws.len();
-    let v = judged(
-        c,
-        n,
-        parents,
-        kinds,
-        &numbers,
-        q,
-        qd,
-        forces,
-        loaded,
-        loads,
-        room,
-        out.len(),
-    );
-    match v {
+    let numbers = topology::active_numbers(&model.kinds);
+    match judged(c, model, &numbers, inputs, ws.len(), out.len()) {
         Err(refusal) => Position::shut(matrix, floating).refused(refusal),
         Ok(()) => {
-            let a = topology::number_at(kinds, &numbers, n);
-            let from = Position::fresh(matrix, floating, n, a);
-            let all = position::visits(matrix, n, a);
+            let a = topology::number_at(&model.kinds, &numbers, model.n);
+            let from = Position::fresh(matrix, floating, model.n, a);
+            let all = position::visits(matrix, model.n, a);
             slots::clear(ws);
-            ran(
-                c, a, n, parents, kinds, origins, axes, links, rotors, &numbers, q, qd, forces,
-                loaded, loads, ws, out, from, all,
-            )
+            ran(c, a, model, &numbers, inputs, ws, out, from, all)
         }
     }
 }

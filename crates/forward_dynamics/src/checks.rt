@@ -2,12 +2,14 @@
 ghost use Rattle.std.specs.Prelude.{◌≡◌, ℕ, Bool, ◌+◌, ◌*◌, ◌≤◌, ◌<◌, eqb, length};
 ghost use Rattle.arm.specs.Topology.{actives_of, active_numbers};
 ghost use Rattle.refusals.specs.Refusals.{lowest};
-ghost use Rattle.forward_dynamics.specs.Checks.{wild_number, wild_load, least_to, motion_verdict, forces_verdict, loads_verdict, root_verdict, rest_verdict, inputs_verdict};
-ghost use Rattle.forward_visits.specs.Inputs.{inputs_by};
+ghost use Rattle.forward_dynamics.specs.Checks.{wild_number, wild_load, least_to, motion_verdict, forces_verdict, loads_verdict, root_verdict, inputs_verdict};
+ghost use Rattle.forward_visits.specs.Inputs.{inputs_of};
 
+use arm::model::Model;
 use arm::{model, topology};
 use calls::{checks, plan};
 use forward_slots::layout;
+use forward_visits::task::Inputs;
 use numbers::double;
 use numbers::quaternion::Quaternion;
 use refusals::Refusal;
@@ -40,19 +42,18 @@ fn wild_load(loads: &[f64], k: usize) -> bool
 
 // 13, 14 and 15.
 #[tactic(auto, unfolding(crate::specs::Checks::motion_verdict, refusals::specs::Refusals::or_else))]
-fn judged_motion<'a>(
-    n: usize,
+fn judged_motion(
+    m: &Model,
+    numbers: &[u8; 33],
     a: usize,
-    kinds: &'a [u8; 32],
-    numbers: &'a [u8; 33],
-    q: &'a [f64],
-    qd: &'a [f64],
+    q: &[f64],
+    qd: &[f64],
 ) -> Result<(), Refusal>
-    requires { (numbers.now ≡ active_numbers kinds.now) × (n ≤ 32) × (a ≡ actives_of kinds.now n) × (length q.now ≡ actives_of kinds.now n) }
-    ensures { result ≡ motion_verdict n kinds.now q.now qd.now }
+    requires { (numbers.now ≡ active_numbers m.now.kinds) × (m.now.n ≤ 32) × (a ≡ actives_of m.now.kinds m.now.n) × (length q.now ≡ actives_of m.now.kinds m.now.n) }
+    ensures { result ≡ motion_verdict m.now.n m.now.kinds q.now qd.now }
 {
-    checks::check_turns(kinds, numbers, n, q)?;
-    checks::check_values(14, 15, kinds, numbers, n, a, qd)
+    checks::check_turns(&m.kinds, numbers, m.n, q)?;
+    checks::check_values(14, 15, &m.kinds, numbers, m.n, a, qd)
 }
 
 // 16, 17 and 18.
@@ -92,63 +93,32 @@ fn judged_root(rotation: Quaternion, base: Twist) -> Result<(), Refusal>
     refusals::plain(22, checks::bad_rotation(rotation) || !base.is_finite())
 }
 
-// 13 to 22.
-#[tactic(auto, unfolding(crate::specs::Checks::rest_verdict, refusals::specs::Refusals::or_else))]
-fn judged_rest<'a>(
-    n: usize,
-    a: usize,
-    side: usize,
-    rotation: Quaternion,
-    base: Twist,
-    kinds: &'a [u8; 32],
-    numbers: &'a [u8; 33],
-    q: &'a [f64],
-    qd: &'a [f64],
-    forces: &'a [f64],
-    loaded: &'a [u64],
-    loads: &'a [f64],
-    out: usize,
-) -> Result<(), Refusal>
-    requires { (numbers.now ≡ active_numbers kinds.now) × (n ≤ 32) × (a ≡ actives_of kinds.now n) × (length q.now ≡ actives_of kinds.now n) }
-    ensures { result ≡ rest_verdict n side rotation base kinds.now (inputs_by q.now qd.now forces.now loaded.now loads.now) out }
-{
-    judged_motion(n, a, kinds, numbers, q, qd)?;
-    judged_forces(side, forces, out)?;
-    judged_loads(n, loaded, loads)?;
-    judged_root(rotation, base)
-}
-
 // 9 to 22.
-#[tactic(auto, using(calls::proofs::Passed::counted, arm::proofs::topology::Counts::bounds), unfolding(crate::specs::Checks::inputs_verdict, refusals::specs::Refusals::plain_of, refusals::specs::Refusals::or_else))]
-pub fn judged<'a>(
+#[tactic(auto, using(calls::proofs::Passed::counted, arm::proofs::topology::Counts::bounds), unfolding(crate::specs::Checks::inputs_verdict, crate::specs::Checks::rest_verdict, refusals::specs::Refusals::plain_of, refusals::specs::Refusals::or_else))]
+pub fn judged(
     floating: bool,
     rotation: Quaternion,
     base: Twist,
-    n: usize,
-    parents: &'a [u8; 32],
-    kinds: &'a [u8; 32],
-    numbers: &'a [u8; 33],
-    q: &'a [f64],
-    qd: &'a [f64],
-    forces: &'a [f64],
-    loaded: &'a [u64],
-    loads: &'a [f64],
+    m: &Model,
+    numbers: &[u8; 33],
+    inputs: &Inputs,
     ws: usize,
     out: usize,
 ) -> Result<(), Refusal>
-    requires { numbers.now ≡ active_numbers kinds.now }
-    ensures { result ≡ inputs_verdict floating rotation base n parents.now kinds.now (inputs_by q.now qd.now forces.now loaded.now loads.now) ws out }
+    requires { numbers.now ≡ active_numbers m.now.kinds }
+    ensures { result ≡ inputs_verdict floating rotation base m.now.n m.now.parents m.now.kinds (inputs_of inputs.now) ws out }
 {
-    if model::wild(n, parents, kinds) {
+    let n = m.n;
+    if model::wild(n, &m.parents, &m.kinds) {
         return Err(Refusal::plain(9));
     }
     if ws < n * layout::ROOM_JOINT + layout::ROOM_ROOT {
         return Err(Refusal::plain(10));
     }
-    let a = topology::number_at(kinds, numbers, n);
-    checks::check_values(11, 12, kinds, numbers, n, a, q)?;
-    let side = plan::planned(floating, n, a).side;
-    judged_rest(
-        n, a, side, rotation, base, kinds, numbers, q, qd, forces, loaded, loads, out,
-    )
+    let a = topology::number_at(&m.kinds, numbers, n);
+    checks::check_values(11, 12, &m.kinds, numbers, n, a, inputs.q)?;
+    judged_motion(m, numbers, a, inputs.q, inputs.qd)?;
+    judged_forces(plan::planned(floating, n, a).side, inputs.forces, out)?;
+    judged_loads(n, inputs.loaded, inputs.loads)?;
+    judged_root(rotation, base)
 }

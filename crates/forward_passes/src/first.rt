@@ -1,14 +1,13 @@
 // The joints rising, first pass.
 ghost use Rattle.std.specs.Prelude.{◌≡◌, ◌+◌, ◌-◌, ◌≤◌, ◌<◌, length};
 ghost use Rattle.arm.specs.Topology.{actives_of};
-ghost use Rattle.calls.specs.Plan.{Fit};
 ghost use Rattle.forward_slots.specs.Layout.{frame_place, Room};
 ghost use Rattle.forward_passes.specs.First.{parent_twist, put_first, first_at, first_visit};
 
+use crate::fitted::Fitted;
 use arm::{model, topology};
 use articulated::first;
 use articulated::first::First;
-use calls::plan::Plan;
 use forward_slots::layout;
 use spatial::twist::Twist;
 
@@ -37,27 +36,32 @@ fn put_first(ws: &mut [f64], j: usize, f: First)
 
 // What joint j works out, of a link with this inertia.
 #[tactic(auto, unfolding(crate::specs::First::first_at))]
-fn first_at<'a>(
-    p: Plan,
+fn first_at(
+    arm: &Fitted,
     velocity: Twist,
-    parents: &'a [u8; 32],
-    kinds: &'a [u8; 32],
-    origins: &'a [f64; 224],
-    axes: &'a [f64; 96],
-    numbers: &'a [u8; 33],
-    q: &'a [f64],
-    qd: &'a [f64],
-    inertia: &'a [f64; 36],
-    ws: &'a [f64],
+    q: &[f64],
+    qd: &[f64],
+    inertia: &[f64; 36],
+    ws: &[f64],
     j: usize,
 ) -> First
-    requires { Fit p parents.now kinds.now numbers.now × Room p (length ws.now) × (j < p.n) × (length q.now ≡ actives_of kinds.now p.n) × (length qd.now ≡ actives_of kinds.now p.n) }
-    ensures { result ≡ first_at velocity parents.now kinds.now origins.now axes.now q.now qd.now inertia.now j ws.now }
+    requires { Room arm.now.plan (length ws.now) × (j < arm.now.plan.n) × (length q.now ≡ actives_of arm.now.model.now.kinds arm.now.plan.n) × (length qd.now ≡ actives_of arm.now.model.now.kinds arm.now.plan.n) }
+    ensures { let m = arm.now.model.now in result ≡ first_at velocity m.parents m.kinds m.origins m.axes q.now qd.now inertia.now j ws.now }
 {
-    let n = p.n;
-    let joint = model::joint_at(n, parents, kinds, origins, axes, j);
-    let frame = topology::frame_at(n, parents, kinds, origins, axes, numbers, q, j);
-    let speed = topology::value_of(joint.motion, kinds, numbers, qd, n, j);
+    let n = arm.plan.n;
+    let m = arm.model;
+    let joint = model::joint_at(n, &m.parents, &m.kinds, &m.origins, &m.axes, j);
+    let frame = topology::frame_at(
+        n,
+        &m.parents,
+        &m.kinds,
+        &m.origins,
+        &m.axes,
+        arm.numbers,
+        q,
+        j,
+    );
+    let speed = topology::value_of(joint.motion, &m.kinds, arm.numbers, qd, n, j);
     let carried = parent_twist(ws, joint.parent, velocity, layout::VELOCITY);
     let load = slots::wrench_at(ws, j * layout::JOINT + layout::LOAD);
     first::first_pass(frame, joint.motion, speed, carried, inertia, load)
@@ -65,28 +69,13 @@ fn first_at<'a>(
 
 // Joint j's numbers of the first pass, and its own link's inertia.
 #[tactic(auto, unfolding(crate::specs::First::first_visit))]
-pub fn first_visit<'a>(
-    p: Plan,
-    velocity: Twist,
-    parents: &'a [u8; 32],
-    kinds: &'a [u8; 32],
-    origins: &'a [f64; 224],
-    axes: &'a [f64; 96],
-    links: &'a [f64; 330],
-    numbers: &'a [u8; 33],
-    q: &'a [f64],
-    qd: &'a [f64],
-    ws: &mut [f64],
-    j: usize,
-)
-    requires { Fit p parents.now kinds.now numbers.now × Room p (length ws.old) × (j < p.n) × (length q.now ≡ actives_of kinds.now p.n) × (length qd.now ≡ actives_of kinds.now p.n) }
-    ensures { ws.new ≡ first_visit velocity parents.now kinds.now origins.now axes.now links.now q.now qd.now j ws.old }
+pub fn first_visit(arm: &Fitted, velocity: Twist, q: &[f64], qd: &[f64], ws: &mut [f64], j: usize)
+    requires { Room arm.now.plan (length ws.old) × (j < arm.now.plan.n) × (length q.now ≡ actives_of arm.now.model.now.kinds arm.now.plan.n) × (length qd.now ≡ actives_of arm.now.model.now.kinds arm.now.plan.n) }
+    ensures { let m = arm.now.model.now in ws.new ≡ first_visit velocity m.parents m.kinds m.origins m.axes m.links q.now qd.now j ws.old }
 {
-    let link = model::link_at(links, j + 1);
+    let link = model::link_at(&arm.model.links, j + 1);
     let inertia = first::body_inertia(link);
-    let f = first_at(
-        p, velocity, parents, kinds, origins, axes, numbers, q, qd, &inertia, ws, j,
-    );
+    let f = first_at(arm, velocity, q, qd, &inertia, ws, j);
     put_first(ws, j, f);
     slots::put_mat6(ws, j * layout::JOINT + layout::INERTIA, &inertia);
 }

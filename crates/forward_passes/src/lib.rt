@@ -2,6 +2,7 @@
 #![tactic(auto)]
 
 pub mod first;
+pub mod fitted;
 pub mod root;
 pub mod second;
 pub mod third;

@@ -4,6 +4,7 @@ ghost use Rattle.forward_slots.specs.Layout.{room_of, Room};
 ghost use Rattle.forward_passes.specs.Root.{put_root, begun_of, base_at, floating_root, root_visit};
 
 use arm::model;
+use arm::model::Model;
 use articulated::root::Base;
 use articulated::{first, root};
 use calls::plan::Plan;
@@ -15,46 +16,38 @@ use spatial::wrench::Wrench;
 
 // The root's own inertia and bias force.
 #[tactic(auto, unfolding(crate::specs::Root::put_root))]
-fn put_root(n: usize, velocity: Twist, links: &[f64; 330], load: Wrench, ws: &mut [f64])
-    requires { (n ≤ 32) × (room_of n ≤ length ws.old) }
-    ensures { ws.new ≡ put_root n velocity links.now load ws.old }
+fn put_root(m: &Model, velocity: Twist, load: Wrench, ws: &mut [f64])
+    requires { (m.now.n ≤ 32) × (room_of m.now.n ≤ length ws.old) }
+    ensures { ws.new ≡ put_root m.now.n velocity m.now.links load ws.old }
 {
-    let link = model::link_at(links, 0);
+    let link = model::link_at(&m.links, 0);
     let inertia = first::body_inertia(link);
     let force = first::bias_force(&inertia, velocity, load);
-    slots::put_mat6(ws, n * layout::JOINT, &inertia);
-    slots::put_wrench(ws, n * layout::JOINT + layout::ROOT_FORCE, force);
+    slots::put_mat6(ws, m.n * layout::JOINT, &inertia);
+    slots::put_wrench(ws, m.n * layout::JOINT + layout::ROOT_FORCE, force);
 }
 
 // What the Rust sets before its loops comes with the first visit.
 #[tactic(auto, unfolding(crate::specs::Root::begun_of))]
-pub fn begin<'a>(
-    n: usize,
-    velocity: Twist,
-    links: &'a [f64; 330],
-    loaded: &'a [u64],
-    loads: &'a [f64],
-    ws: &mut [f64],
-    at: usize,
-)
-    requires { (length loads.now ≡ 6 * length loaded.now) × (n ≤ 32) × (room_of n ≤ length ws.old) }
-    ensures { ws.new ≡ begun_of n velocity links.now loaded.now loads.now at ws.old }
+pub fn begin(m: &Model, velocity: Twist, loaded: &[u64], loads: &[f64], ws: &mut [f64], at: usize)
+    requires { (length loads.now ≡ 6 * length loaded.now) × (m.now.n ≤ 32) × (room_of m.now.n ≤ length ws.old) }
+    ensures { ws.new ≡ begun_of m.now.n velocity m.now.links loaded.now loads.now at ws.old }
 {
     if at != 0 {
         return;
     }
-    let load = loads::prepare_indexed_loads(n, loaded, loads, ws);
-    put_root(n, velocity, links, load, ws);
+    let load = loads::prepare_indexed_loads(m.n, loaded, loads, ws);
+    put_root(m, velocity, load, ws);
 }
 
 // A floating base, from the root's inertia and bias force.
 #[tactic(auto, unfolding(crate::specs::Root::base_at))]
-fn base_at<'a>(
+fn base_at(
     n: usize,
     rotation: Quaternion,
     velocity: Twist,
-    forces: &'a [f64],
-    ws: &'a [f64],
+    forces: &[f64],
+    ws: &[f64],
 ) -> Result<Base, Refusal>
     requires { (n ≤ 32) × (room_of n ≤ length ws.now) × (6 ≤ length forces.now) }
     ensures { result ≡ base_at n rotation velocity forces.now ws.now }
@@ -67,11 +60,11 @@ fn base_at<'a>(
 
 // The base's six results wait for the joints' like them.
 #[tactic(auto, unfolding(crate::specs::Root::floating_root, crate::specs::Root::kept_base))]
-fn floating_root<'a>(
+fn floating_root(
     n: usize,
     rotation: Quaternion,
     velocity: Twist,
-    forces: &'a [f64],
+    forces: &[f64],
     ws: &mut [f64],
 ) -> Result<(), Refusal>
     requires { (n ≤ 32) × (room_of n ≤ length ws.old) × (6 ≤ length forces.now) }

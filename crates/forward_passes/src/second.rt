@@ -1,13 +1,11 @@
 // The joints falling, second pass: an active joint's terms, and what goes into its parent.
 ghost use Rattle.std.specs.Prelude.{◌≡◌, ◌+◌, ◌≤◌, ◌<◌, length};
-ghost use Rattle.arm.specs.Model.{Tree, parent_of};
-ghost use Rattle.calls.specs.Plan.{Fit};
+ghost use Rattle.arm.specs.Model.{parent_of};
 ghost use Rattle.forward_slots.specs.Layout.{frame_place, Room};
 ghost use Rattle.forward_passes.specs.Second.{add_into, propagated, second_visit};
 
+use crate::fitted::Fitted;
 use arm::joint::Motion;
-use arm::{model, topology};
-use calls::plan::Plan;
 use forward_slots::{eliminate, layout, reduced, whole};
 use refusals::Refusal;
 
@@ -25,11 +23,11 @@ fn add_into(motion: Motion, ws: &mut [f64], at: usize, j: usize)
 
 // Into the parent's, or the root's where it floats.
 #[tactic(auto, unfolding(crate::specs::Second::propagated))]
-fn propagate(p: Plan, motion: Motion, parents: &[u8; 32], ws: &mut [f64], j: usize)
-    requires { Tree p.n parents.now × Room p (length ws.old) × (j < p.n) }
-    ensures { ws.new ≡ propagated p motion (parent_of parents.now j) j ws.old }
+fn propagate(arm: &Fitted, motion: Motion, ws: &mut [f64], j: usize)
+    requires { Room arm.now.plan (length ws.old) × (j < arm.now.plan.n) }
+    ensures { ws.new ≡ propagated arm.now.plan motion (parent_of arm.now.model.now.parents j) j ws.old }
 {
-    let parent = model::parent_at(p.n, parents, j);
+    let parent = arm.parent_at(j);
     if parent != 0 {
         add_into(
             motion,
@@ -37,29 +35,19 @@ fn propagate(p: Plan, motion: Motion, parents: &[u8; 32], ws: &mut [f64], j: usi
             (parent - 1) * layout::JOINT + layout::INERTIA,
             j,
         );
-    } else if p.lead != 0 {
-        add_into(motion, ws, p.n * layout::JOINT, j);
+    } else if arm.plan.lead != 0 {
+        add_into(motion, ws, arm.plan.n * layout::JOINT, j);
     }
 }
 
 #[tactic(auto, unfolding(crate::specs::Second::second_visit, forward_slots::specs::Eliminate::unless_refused))]
-pub fn second_visit<'a>(
-    p: Plan,
-    parents: &'a [u8; 32],
-    kinds: &'a [u8; 32],
-    axes: &'a [f64; 96],
-    rotors: &'a [f64; 32],
-    numbers: &'a [u8; 33],
-    forces: &'a [f64],
-    ws: &mut [f64],
-    j: usize,
-) -> Result<(), Refusal>
-    requires { Fit p parents.now kinds.now numbers.now × Room p (length ws.old) × (j < p.n) × (length forces.now ≡ p.side) }
-    ensures { (result, ws.new) ≡ second_visit p parents.now kinds.now axes.now rotors.now forces.now j ws.old }
+pub fn second_visit(arm: &Fitted, forces: &[f64], ws: &mut [f64], j: usize) -> Result<(), Refusal>
+    requires { Room arm.now.plan (length ws.old) × (j < arm.now.plan.n) × (length forces.now ≡ arm.now.plan.side) }
+    ensures { let m = arm.now.model.now in (result, ws.new) ≡ second_visit arm.now.plan m.parents m.kinds m.axes m.rotors forces.now j ws.old }
 {
-    let motion = model::motion_at(kinds, axes, j);
-    let number = topology::number_at(kinds, numbers, j);
-    eliminate::eliminate(p, motion, rotors[j], number, forces, ws, j)?;
-    propagate(p, motion, parents, ws, j);
+    let motion = arm.motion_at(j);
+    let rotor = arm.model.rotors[j];
+    eliminate::eliminate(arm.plan, motion, rotor, arm.number_at(j), forces, ws, j)?;
+    propagate(arm, motion, ws, j);
     Ok(())
 }

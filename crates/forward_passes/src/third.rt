@@ -1,13 +1,11 @@
 // The joints rising, third pass: accelerations.
 ghost use Rattle.std.specs.Prelude.{◌≡◌, ◌+◌, ◌≤◌, ◌<◌, length};
-ghost use Rattle.arm.specs.Model.{Tree};
-ghost use Rattle.calls.specs.Plan.{Fit};
 ghost use Rattle.forward_slots.specs.Layout.{room_of, Room};
 ghost use Rattle.forward_passes.specs.Third.{carried_at, solved_joint, third_visit};
 
 use crate::first;
+use crate::fitted::Fitted;
 use arm::joint::Motion;
-use arm::{model, topology};
 use articulated::third;
 use calls::plan::Plan;
 use forward_slots::{layout, term};
@@ -17,11 +15,12 @@ use spatial::twist::Twist;
 
 // Joint j's link before the joint's own acceleration.
 #[tactic(auto, unfolding(crate::specs::Third::carried_at))]
-fn carried_at<'a>(n: usize, parents: &'a [u8; 32], ws: &'a [f64], j: usize) -> Twist
-    requires { Tree n parents.now × (room_of n ≤ length ws.now) × (j < n) }
-    ensures { result ≡ carried_at n parents.now j ws.now }
+fn carried_at(arm: &Fitted, ws: &[f64], j: usize) -> Twist
+    requires { (room_of arm.now.plan.n ≤ length ws.now) × (j < arm.now.plan.n) }
+    ensures { result ≡ carried_at arm.now.plan.n arm.now.model.now.parents j ws.now }
 {
-    let parent = model::parent_at(n, parents, j);
+    let n = arm.plan.n;
+    let parent = arm.parent_at(j);
     let root = slots::twist_at(ws, n * layout::JOINT + layout::ROOT_ACCELERATION);
     let carried = first::parent_twist(ws, parent, root, layout::ACCELERATION);
     let frame = slots::frame_at(ws, j * layout::JOINT);
@@ -58,23 +57,16 @@ fn solve_joint(
 }
 
 #[tactic(auto, unfolding(crate::specs::Third::third_visit))]
-pub fn third_visit<'a>(
-    p: Plan,
-    parents: &'a [u8; 32],
-    kinds: &'a [u8; 32],
-    axes: &'a [f64; 96],
-    numbers: &'a [u8; 33],
-    ws: &mut [f64],
-    j: usize,
-) -> Result<(), Refusal>
-    requires { Fit p parents.now kinds.now numbers.now × Room p (length ws.old) × (j < p.n) }
-    ensures { (result, ws.new) ≡ third_visit p parents.now kinds.now axes.now j ws.old }
+pub fn third_visit(arm: &Fitted, ws: &mut [f64], j: usize) -> Result<(), Refusal>
+    requires { Room arm.now.plan (length ws.old) × (j < arm.now.plan.n) }
+    ensures { let m = arm.now.model.now in (result, ws.new) ≡ third_visit arm.now.plan m.parents m.kinds m.axes j ws.old }
 {
-    let motion = model::motion_at(kinds, axes, j);
-    let number = topology::number_at(kinds, numbers, j);
-    let a = carried_at(p.n, parents, ws, j);
+    let a = carried_at(arm, ws, j);
+    let motion = arm.motion_at(j);
     match motion {
-        Motion::Turn(_) | Motion::Slide(_) => solve_joint(p, motion, number, a, ws, j),
+        Motion::Turn(_) | Motion::Slide(_) => {
+            solve_joint(arm.plan, motion, arm.number_at(j), a, ws, j)
+        }
         Motion::Fixed => {
             slots::put_twist(ws, j * layout::JOINT + layout::ACCELERATION, a);
             Ok(())

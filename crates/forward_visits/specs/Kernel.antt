@@ -3,7 +3,6 @@ use Rattle.std.specs.Prelude.{Bool, cond, List, ℕ, ◌+◌, ◌-◌, eqb, ltb,
 use Rattle.numbers.specs.declared.quaternion.Quaternion.{Quaternion}
 use Rattle.refusals.specs.Refusals.{Verdict, fine}
 use Rattle.spatial.specs.declared.twist.Twist.{Twist}
-use Rattle.arm.specs.Model.{bundle}
 use Rattle.arm.specs.declared.model.Model.{Model}
 use Rattle.calls.specs.declared.position.Outcome.{Outcome}
 use Rattle.calls.specs.declared.position.Outcome.TheVariants.{Open, Accepted, Refused}
@@ -12,7 +11,8 @@ use Rattle.forward_passes.specs.First.{first_visit}
 use Rattle.forward_passes.specs.Second.{second_visit}
 use Rattle.forward_passes.specs.Root.{begun_of, root_visit}
 use Rattle.forward_passes.specs.Third.{third_visit}
-use Rattle.forward_visits.specs.Inputs.{Inputs}
+use Rattle.forward_visits.specs.Inputs.{inputs_of}
+use Rattle.forward_visits.specs.declared.task.Task.{Task}
 
 -- the last visit accepts
 unfoldable pub outcome_of : Verdict → Bool → Outcome
@@ -35,6 +35,6 @@ visit_of p rotation velocity m q qd forces loaded loads at ws =
 
 -- ---- what the steps of the code promise each other
 
--- the visits of a model's lists
-abbrev pub visits_by : Plan → Quaternion → Twist → List ℕ → List ℕ → List Float → List Float → List Float → List Float → Inputs → ℕ → List Float → Outcome × List Float
-visits_by p rotation velocity parents kinds origins axes links rotors i = visit_of p rotation velocity (bundle p.n parents kinds origins axes links rotors) i.q i.qd i.forces i.loaded i.loads
+-- a task's visits
+abbrev pub visits_for : Task → ℕ → List Float → Outcome × List Float
+visits_for t = let i = inputs_of t.inputs in visit_of t.arm.plan t.rotation t.velocity t.arm.model.now i.q i.qd i.forces i.loaded i.loads

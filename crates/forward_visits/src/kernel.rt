@@ -1,18 +1,12 @@
 // The visits: joints rising, joints falling, the root, joints rising.
-ghost use Rattle.std.specs.Prelude.{◌≡◌, ◌+◌, ◌*◌, ◌≤◌, length};
-ghost use Rattle.arm.specs.Model.{bundle};
-ghost use Rattle.arm.specs.Topology.{actives_of};
-ghost use Rattle.calls.specs.Plan.{Fit};
+ghost use Rattle.std.specs.Prelude.{◌≡◌, ◌+◌, ◌≤◌, length};
 ghost use Rattle.forward_slots.specs.Layout.{Room};
-ghost use Rattle.forward_visits.specs.Inputs.{inputs_by};
-ghost use Rattle.forward_visits.specs.Kernel.{outcome_of, pass_visit, visits_by};
+ghost use Rattle.forward_visits.specs.Kernel.{outcome_of, pass_visit, visits_for};
 
-use calls::plan::Plan;
+use crate::task::Task;
 use calls::position::Outcome;
 use forward_passes::{first, root, second, third};
-use numbers::quaternion::Quaternion;
 use refusals::Refusal;
-use spatial::twist::Twist;
 
 // The last visit accepts.
 #[tactic(auto, unfolding(crate::specs::Kernel::outcome_of))]
@@ -28,81 +22,34 @@ fn outcome(v: Result<(), Refusal>, last: bool) -> Outcome
 
 // Visit `at`, after what the first brings.
 #[tactic(auto, unfolding(crate::specs::Kernel::pass_visit))]
-fn pass<'a>(
-    p: Plan,
-    rotation: Quaternion,
-    velocity: Twist,
-    parents: &'a [u8; 32],
-    kinds: &'a [u8; 32],
-    origins: &'a [f64; 224],
-    axes: &'a [f64; 96],
-    links: &'a [f64; 330],
-    rotors: &'a [f64; 32],
-    numbers: &'a [u8; 33],
-    q: &'a [f64],
-    qd: &'a [f64],
-    forces: &'a [f64],
-    ws: &mut [f64],
-    at: usize,
-) -> Result<(), Refusal>
-    requires { Fit p parents.now kinds.now numbers.now × Room p (length ws.old) × (length q.now ≡ actives_of kinds.now p.n) × (length qd.now ≡ actives_of kinds.now p.n) × (length forces.now ≡ p.side) × (at ≤ p.n + p.n + p.n) }
-    ensures { (result, ws.new) ≡ pass_visit p rotation velocity (bundle p.n parents.now kinds.now origins.now axes.now links.now rotors.now) q.now qd.now forces.now at ws.old }
+fn pass(task: &Task, ws: &mut [f64], at: usize) -> Result<(), Refusal>
+    requires { let p = task.now.arm.plan in Room p (length ws.old) × (at ≤ p.n + p.n + p.n) }
+    ensures { let t = task.now in (result, ws.new) ≡ pass_visit t.arm.plan t.rotation t.velocity t.arm.model.now t.inputs.q.now t.inputs.qd.now t.inputs.forces.now at ws.old }
 {
-    let n = p.n;
+    let arm = &task.arm;
+    let n = arm.plan.n;
+    let i = &task.inputs;
     if at < n {
-        first::first_visit(
-            p, velocity, parents, kinds, origins, axes, links, numbers, q, qd, ws, at,
-        );
+        first::first_visit(arm, task.velocity, i.q, i.qd, ws, at);
         return Ok(());
     }
     if at < n + n {
-        return second::second_visit(
-            p,
-            parents,
-            kinds,
-            axes,
-            rotors,
-            numbers,
-            forces,
-            ws,
-            n + n - 1 - at,
-        );
+        return second::second_visit(arm, i.forces, ws, n + n - 1 - at);
     }
     if at == n + n {
-        return root::root_visit(p, rotation, velocity, forces, ws);
+        return root::root_visit(arm.plan, task.rotation, task.velocity, i.forces, ws);
     }
-    third::third_visit(p, parents, kinds, axes, numbers, ws, at - (n + n) - 1)
+    third::third_visit(arm, ws, at - (n + n) - 1)
 }
 
 // Visit `at`.
 #[tactic(auto, unfolding(crate::specs::Kernel::visit_of))]
-pub fn visit<'a>(
-    p: Plan,
-    rotation: Quaternion,
-    velocity: Twist,
-    parents: &'a [u8; 32],
-    kinds: &'a [u8; 32],
-    origins: &'a [f64; 224],
-    axes: &'a [f64; 96],
-    links: &'a [f64; 330],
-    rotors: &'a [f64; 32],
-    numbers: &'a [u8; 33],
-    q: &'a [f64],
-    qd: &'a [f64],
-    forces: &'a [f64],
-    loaded: &'a [u64],
-    loads: &'a [f64],
-    ws: &mut [f64],
-    at: usize,
-) -> Outcome
-    requires { Fit p parents.now kinds.now numbers.now × Room p (length ws.old) × (length q.now ≡ actives_of kinds.now p.n) × (length qd.now ≡ actives_of kinds.now p.n) × (length forces.now ≡ p.side) × (length loads.now ≡ 6 * length loaded.now) × (at ≤ p.n + p.n + p.n) }
-    ensures { (result, ws.new) ≡ visits_by p rotation velocity parents.now kinds.now origins.now axes.now links.now rotors.now (inputs_by q.now qd.now forces.now loaded.now loads.now) at ws.old }
+pub fn visit(task: &Task, ws: &mut [f64], at: usize) -> Outcome
+    requires { let p = task.now.arm.plan in Room p (length ws.old) × (at ≤ p.n + p.n + p.n) }
+    ensures { (result, ws.new) ≡ visits_for task.now at ws.old }
 {
-    let n = p.n;
-    root::begin(n, velocity, links, loaded, loads, ws, at);
-    let v = pass(
-        p, rotation, velocity, parents, kinds, origins, axes, links, rotors, numbers, q, qd,
-        forces, ws, at,
-    );
-    outcome(v, at == n + n + n)
+    let n = task.arm.plan.n;
+    let i = &task.inputs;
+    root::begin(task.arm.model, task.velocity, i.loaded, i.loads, ws, at);
+    outcome(pass(task, ws, at), at == n + n + n)
 }

@@ -2,4 +2,5 @@
 #![tactic(auto)]
 
 pub mod column;
+pub mod fitted;
 pub mod walk;

@@ -10,7 +10,7 @@ use Rattle.spatial.specs.Wrench.{rotated_of}
 use Rattle.spatial.specs.declared.wrench.Wrench.{Wrench}
 use Rattle.slots.specs.Slots.{frame_at, put_frame, put_wrench, zero_to}
 use Rattle.arm.specs.Joint.{frame_of}
-use Rattle.arm.specs.Model.{bundle, parent_of, joint_of, link_of}
+use Rattle.arm.specs.Model.{parent_of, joint_of, link_of}
 use Rattle.arm.specs.Topology.{value_of}
 use Rattle.arm.specs.declared.joint.Motion.TheVariants.{Turn, Slide}
 use Rattle.arm.specs.declared.model.Link.{Link}
@@ -95,7 +95,3 @@ visit_of p r m q at ws =
 -- the composite that a joint's is added to
 unfoldable pub into_place : ℕ → ℕ → ℕ
 into_place n parent = cond (eqb parent 0) (root_place n) (composite_place (parent - 1))
-
--- the visits of a model's lists
-abbrev pub visits_by : Plan → Quaternion → List ℕ → List ℕ → List Float → List Float → List Float → List Float → List Float → ℕ → List Float → Outcome × List Float
-visits_by p r parents kinds origins axes links rotors q = visit_of p r (bundle p.n parents kinds origins axes links rotors) q

@@ -1,14 +1,14 @@
 // The visits: frames rising, composites falling, active columns rising, the root.
 ghost use Rattle.std.specs.Prelude.{◌≡◌, ◌+◌, ◌≤◌, ◌<◌, length};
 ghost use Rattle.slots.specs.Slots.{put_wrench};
-ghost use Rattle.arm.specs.Model.{bundle, Tree, parent_of};
+ghost use Rattle.arm.specs.Model.{Tree, parent_of};
 ghost use Rattle.arm.specs.Topology.{actives_of};
-ghost use Rattle.calls.specs.Plan.{Fit};
 ghost use Rattle.composites.specs.Plan.{composite_place, root_place, Room, place_of};
-ghost use Rattle.matrix_visits.specs.Kernel.{begun_of, frame_visit, add_into, composite_visit, world_axis, base_load, base_loads_to, root_columns, tested, root_visit, joint_visit, visits_by, into_place};
+ghost use Rattle.matrix_visits.specs.Kernel.{begun_of, frame_visit, add_into, composite_visit, world_axis, base_load, base_loads_to, root_columns, tested, root_visit, joint_visit, visit_of, into_place};
 
+use crate::task::Task;
+use arm::model;
 use arm::model::Link;
-use arm::{model, topology};
 use calls::plan::Plan;
 use calls::position::Outcome;
 use composites::{composite, plan};
@@ -35,25 +35,13 @@ fn begin(p: Plan, links: &[f64; 330], ws: &mut [f64], at: usize)
 
 // Joint j's frame, and its own link as the start of its composite.
 #[tactic(auto, unfolding(crate::specs::Kernel::frame_visit))]
-fn frame_visit<'a>(
-    p: Plan,
-    parents: &'a [u8; 32],
-    kinds: &'a [u8; 32],
-    origins: &'a [f64; 224],
-    axes: &'a [f64; 96],
-    links: &'a [f64; 330],
-    numbers: &'a [u8; 33],
-    q: &'a [f64],
-    ws: &mut [f64],
-    j: usize,
-)
-    requires { Fit p parents.now kinds.now numbers.now × Room p (length ws.old) × (j < p.n) × (length q.now ≡ actives_of kinds.now p.n) }
-    ensures { ws.new ≡ frame_visit parents.now kinds.now origins.now axes.now links.now q.now j ws.old }
+fn frame_visit(task: &Task, ws: &mut [f64], j: usize)
+    requires { Room task.now.fitted.plan (length ws.old) × (j < task.now.fitted.plan.n) }
+    ensures { let m = task.now.fitted.model.now in ws.new ≡ frame_visit m.parents m.kinds m.origins m.axes m.links task.now.q.now j ws.old }
 {
-    let frame = topology::frame_at(p.n, parents, kinds, origins, axes, numbers, q, j);
-    slots::put_frame(ws, j * plan::JOINT, frame);
-    let link = model::link_at(links, j + 1);
-    composite::put_composite(ws, j * plan::JOINT + plan::COMPOSITE, link);
+    let arm = task.arm();
+    slots::put_frame(ws, j * plan::JOINT, arm.frame_at(j));
+    composite::put_composite(ws, j * plan::JOINT + plan::COMPOSITE, arm.link_at(j + 1));
 }
 
 // Joint j's composite is added to the one at a place.
@@ -170,59 +158,32 @@ fn root_visit(p: Plan, r: Quaternion, ws: &mut [f64]) -> Outcome
 
 // A visit below the root's, after what the first brings.
 #[tactic(auto, using(arm::proofs::topology::Counts::bounds), unfolding(crate::specs::Kernel::joint_visit))]
-fn joint_visit<'a>(
-    p: Plan,
-    r: Quaternion,
-    parents: &'a [u8; 32],
-    kinds: &'a [u8; 32],
-    origins: &'a [f64; 224],
-    axes: &'a [f64; 96],
-    links: &'a [f64; 330],
-    rotors: &'a [f64; 32],
-    numbers: &'a [u8; 33],
-    q: &'a [f64],
-    ws: &mut [f64],
-    at: usize,
-)
-    requires { Fit p parents.now kinds.now numbers.now × Room p (length ws.old) × (length q.now ≡ actives_of kinds.now p.n) × (at < p.n + p.n + actives_of kinds.now p.n) }
-    ensures { ws.new ≡ joint_visit p r (bundle p.n parents.now kinds.now origins.now axes.now links.now rotors.now) q.now at ws.old }
+fn joint_visit(task: &Task, ws: &mut [f64], at: usize)
+    requires { let p = task.now.fitted.plan in Room p (length ws.old) × (at < p.n + p.n + actives_of task.now.fitted.model.now.kinds p.n) }
+    ensures { ws.new ≡ joint_visit task.now.fitted.plan task.now.fitted.rotation task.now.fitted.model.now task.now.q.now at ws.old }
 {
-    let n = p.n;
+    let fitted = &task.fitted;
+    let n = fitted.plan.n;
     if at < n {
-        frame_visit(p, parents, kinds, origins, axes, links, numbers, q, ws, at);
+        frame_visit(task, ws, at);
     } else if at < n + n {
-        composite_visit(p, parents, ws, n + n - 1 - at);
+        composite_visit(fitted.plan, &fitted.model.parents, ws, n + n - 1 - at);
     } else {
-        let k = at - (n + n);
-        column::active_column(p, r, parents, kinds, axes, rotors, numbers, ws, k);
+        column::active_column(fitted, ws, at - (n + n));
     }
 }
 
 // Visit `at`.
 #[tactic(auto, unfolding(crate::specs::Kernel::visit_of))]
-pub fn visit<'a>(
-    p: Plan,
-    r: Quaternion,
-    parents: &'a [u8; 32],
-    kinds: &'a [u8; 32],
-    origins: &'a [f64; 224],
-    axes: &'a [f64; 96],
-    links: &'a [f64; 330],
-    rotors: &'a [f64; 32],
-    numbers: &'a [u8; 33],
-    q: &'a [f64],
-    ws: &mut [f64],
-    at: usize,
-) -> Outcome
-    requires { Fit p parents.now kinds.now numbers.now × Room p (length ws.old) × (length q.now ≡ actives_of kinds.now p.n) }
-    ensures { (result, ws.new) ≡ visits_by p r parents.now kinds.now origins.now axes.now links.now rotors.now q.now at ws.old }
+pub fn visit(task: &Task, ws: &mut [f64], at: usize) -> Outcome
+    requires { Room task.now.fitted.plan (length ws.old) }
+    ensures { (result, ws.new) ≡ visit_of task.now.fitted.plan task.now.fitted.rotation task.now.fitted.model.now task.now.q.now at ws.old }
 {
-    begin(p, links, ws, at);
+    let p = task.fitted.plan;
+    begin(p, &task.fitted.model.links, ws, at);
     if at < p.n + p.n + (p.side - p.lead) {
-        joint_visit(
-            p, r, parents, kinds, origins, axes, links, rotors, numbers, q, ws, at,
-        );
+        joint_visit(task, ws, at);
         return Outcome::Open;
     }
-    root_visit(p, r, ws)
+    root_visit(p, task.fitted.rotation, ws)
 }

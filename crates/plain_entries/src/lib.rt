@@ -3,3 +3,4 @@
 
 pub mod entries;
 pub mod gather;
+pub mod posed;

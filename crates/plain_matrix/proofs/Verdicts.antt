@@ -22,7 +22,7 @@ use Rattle.plain_matrix.specs.PlainMatrix.{plain_verdict}
 
 module _ (floating : Bool) (r : Quaternion) (n : ℕ) (parents kinds : List ℕ) (q : List Float) (out : ℕ) where
   -- they are the fast engine's, lent the workspace that it asks for
-  abbrev room : ℕ
+  abbrev pub room : ℕ
   room = matrix_place n + (plan_of floating n kinds).side * (plan_of floating n kinds).side
 
   with-room : inputs_verdict floating r n parents kinds q room out ≡ plain_verdict floating r n parents kinds q out

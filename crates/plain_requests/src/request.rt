@@ -23,9 +23,7 @@ fn answer(m: Model, mode: Mode, q: &[f64], size: usize, text: &mut [u8], at: usi
 {
     let out = &mut output_buffer()[..size];
     fill(out);
-    let outcome = plain_matrix(
-        mode, m.n, &m.parents, &m.kinds, &m.origins, &m.axes, &m.links, &m.rotors, q, out,
-    );
+    let outcome = plain_matrix(mode, &m, q, out);
     put_plain(text, at, outcome, out)
 }
 

@@ -20,7 +20,7 @@ use Rattle.arm.proofs.topology.Counts.{actives-le}
 use Rattle.calls.specs.Plan.{plan_by, plan_of, Fit}
 use Rattle.calls.specs.declared.plan.Plan.{Plan}
 use Rattle.calls.proofs.Passed.{tame, as_wanted}
-use Rattle.calls.proofs.Fits.{fits, side-most}
+use Rattle.calls.proofs.Fits.{fits}
 use Rattle.plain_matrix.specs.PlainMatrix.{joint_with}
 use Rattle.plain_matrix.proofs.Listed.{in-square}
 use Rattle.plain_matrix.proofs.Roots.{with_number}
@@ -88,8 +88,9 @@ module _ (floating : Bool) (n : ℕ) (parents kinds : List ℕ) (c : Changes) (m
     is-plan : p ≡ plan_of floating n kinds
     is-plan = ep ∙ ap (plan_by floating n) ea
 
-    pub fitting : (numbers : List ℕ) → numbers ≡ active_numbers kinds → Fit p parents kinds numbers × (p.side ≤ 38) × (length marks ≡ p.side * p.side)
-    fitting numbers d = rw is-plan (fits floating n parents kinds good numbers d, omega (arith, side-most floating n parents kinds good, good.tree.few), sized floating n parents kinds (length marks) (sym ev ∙ e))
+    pub fitting : (numbers : List ℕ) → numbers ≡ active_numbers kinds → Fit p parents kinds numbers × (n ≡ p.n) × (length marks ≡ p.side * p.side)
+    unfolding plan_by
+    fitting numbers d = rw is-plan (fits floating n parents kinds good numbers d, refl, sized floating n parents kinds (length marks) (sym ev ∙ e))
 
     rule-same : (J I : ℕ) → J < n → stands_by n parents kinds composites c.frames c.axes c.rotors J I ≡ stands_between n parents kinds c J I
     unfolding stands_by stands_between

@@ -8,15 +8,9 @@ use Rattle.calls.specs.Plan.{plan_of}
 use Rattle.calls.specs.declared.plan.Plan.{Plan}
 use Rattle.plain_matrix.specs.PlainMatrix.{joint_with}
 use Rattle.standing.specs.Tree.{carries, between}
+pub use Rattle.standing.specs.declared.changes.Changes.{Changes}
 
 -- ---- what is not what it was
-
--- a flag for each link; for each joint one for its frame (the origin, or the joint's number of q), its axis and its rotor
-pub record Changes : Type 0 where
-  pub links : List Bool
-  pub frames : List Bool
-  pub axes : List Bool
-  pub rotors : List Bool
 
 abbrev pub changes : List Bool → List Bool → List Bool → List Bool → Changes
 changes links frames axes rotors = record { links = links; frames = frames; axes = axes; rotors = rotors }

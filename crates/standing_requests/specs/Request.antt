@@ -7,10 +7,10 @@ use Rattle.words.specs.List.{numbers}
 use Rattle.std.specs.List.{concat, list_all}
 use Rattle.words.specs.Write.{mark_text, list_text}
 use Rattle.arm.specs.declared.model.Model.{Model}
-use Rattle.standing.specs.Standing.{Changes, changes, marks_room, stands_call}
+use Rattle.standing.specs.Standing.{changes, marks_room, stands_call}
+use Rattle.standing.specs.declared.changes.Changes.{Changes}
 use Rattle.readings.specs.Read.{flag}
 use Rattle.replies.specs.Replies.{refused_text}
-use Rattle.standing_requests.specs.declared.request.Told.{Told}
 
 -- ---- a LIST of links or of joints
 
@@ -55,7 +55,3 @@ unfoldable pub stands_request : Model → Reader (List ℕ)
 stands_request m = do
   t ← told m.n
   give (stands_line m t.0 t.1)
-
--- ---- what the code's struct says
-abbrev pub told_by : Told → Bool × Changes
-told_by t = (t.floating, changes t.links t.frames t.axes t.rotors)

@@ -3,13 +3,13 @@ ghost use Rattle.std.specs.Prelude.{◌≡◌, false, ◌++◌, ◌+◌, ◌≤�
 ghost use Rattle.numbers.specs.Table.{tab};
 ghost use Rattle.words.specs.Read.{ReadBy};
 ghost use Rattle.replies.specs.Replies.{room, text_of};
-ghost use Rattle.standing.specs.Standing.{changes};
-ghost use Rattle.standing_requests.specs.Request.{listed, all_below, named, stands_text, stands_line, told, told_by, stands_request};
+ghost use Rattle.standing_requests.specs.Request.{listed, all_below, named, stands_text, stands_line, told, stands_request};
 
 use arm::model::Model;
 use readings::read::next_flag;
 use refusals::Refusal;
 use replies::{error, put_refused};
+use standing::changes::Changes;
 use standing::{marks_room, stands};
 use words::list::number_buffer;
 use words::read::Words;
@@ -80,48 +80,20 @@ fn mark_buffer() -> [bool; 1444]
     [false; 1444]
 }
 
-fn answer<'a>(
-    m: Model,
-    floating: bool,
-    links: &'a [bool; 33],
-    frames: &'a [bool; 32],
-    axes: &'a [bool; 32],
-    rotors: &'a [bool; 32],
-    text: &mut [u8],
-    at: usize,
-) -> usize
+fn answer(m: Model, floating: bool, changes: &Changes, text: &mut [u8], at: usize) -> usize
     requires { at + room ≤ length text.old }
-    ensures { (at ≤ result) × (result ≤ at + room) × (take result text.new ≡ take at text.old ++ stands_line m floating (changes links.now frames.now axes.now rotors.now)) }
+    ensures { (at ≤ result) × (result ≤ at + room) × (take result text.new ≡ take at text.old ++ stands_line m floating changes.now) }
 {
     let mut marks = mark_buffer();
-    let count = marks_room(floating, m.n, &m.parents, &m.kinds);
-    let v = stands(
-        floating,
-        m.n,
-        &m.parents,
-        &m.kinds,
-        links,
-        frames,
-        axes,
-        rotors,
-        &mut marks[..count],
-    );
+    let count = marks_room(floating, &m);
+    let v = stands(floating, &m, changes, &mut marks[..count]);
     put_stands(text, at, v, &marks[..count])
 }
 
 // ROOT LINKS FRAMES AXES ROTORS.
-#[derive(Clone, Copy)]
-struct Told {
-    floating: bool,
-    links: [bool; 33],
-    frames: [bool; 32],
-    axes: [bool; 32],
-    rotors: [bool; 32],
-}
-
 #[tactic(auto, unfolding(crate::specs::Request::told, words::specs::Read::end))]
-fn next_told(n: u64, words: &mut Words) -> Option<Told>
-    ensures { ReadBy (told n) words.old (option_map told_by result) words.new }
+fn next_told(n: u64, words: &mut Words) -> Option<(bool, Changes)>
+    ensures { ReadBy (told n) words.old result words.new }
 {
     let floating = next_flag(words)?;
     let mut links = [false; 33];
@@ -135,13 +107,13 @@ fn next_told(n: u64, words: &mut Words) -> Option<Told>
     if !words.at_end() {
         return None;
     }
-    Some(Told {
-        floating,
+    let changes = Changes {
         links,
         frames,
         axes,
         rotors,
-    })
+    };
+    Some((floating, changes))
 }
 
 #[tactic(auto, unfolding(crate::specs::Request::stands_request))]
@@ -150,9 +122,7 @@ pub fn standing(m: Model, mut words: Words, text: &mut [u8], at: usize) -> usize
     ensures { (at ≤ result) × (result ≤ at + room) × (take result text.new ≡ take at text.old ++ text_of (stands_request m words.entry)) }
 {
     match next_told(m.n as u64, &mut words) {
-        Some(t) => answer(
-            m, t.floating, &t.links, &t.frames, &t.axes, &t.rotors, text, at,
-        ),
+        Some((floating, changes)) => answer(m, floating, &changes, text, at),
         None => error(text, at),
     }
 }

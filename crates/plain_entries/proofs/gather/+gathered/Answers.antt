@@ -7,13 +7,13 @@ pub returns-then-i-eq0 : goal.returns-then-i-eq0
 returns-then-i-eq0 t c = c.link_at.ensures ∙ gathered-first _ _ _ c.if-i-eq0.true
 
 -- the higher ones first; this one stands elsewhere
-pub returns-then-parent-l : goal.returns-then-parent-l
-returns-then-parent-l t c =
+pub returns-then-parent_at-l : goal.returns-then-parent_at-l
+returns-then-parent_at-l t c =
     c.gathered-c.ensures
-    ∙ gathered-not _ _ _ c.if-i-eq0.false (λ z. c.if-parent-l.true (c.parent_at-parent.ensures.0 ∙ z))
+    ∙ gathered-not _ _ _ c.if-i-eq0.false (λ z. c.if-parent_at-l.true (c.parent_at.ensures.0 ∙ z))
 
 -- or here
 pub returns : goal.returns
 returns t c =
-    rw (c.joined.ensures, c.to_parent-moved.ensures, c.frame_at-f.ensures)
-    (gathered-more _ _ _ c.requires.0.tree.below c.if-i-eq0.false (sym c.parent_at-parent.ensures.0 ∙ c.if-parent-l.false) c.gathered-c.ensures c.gathered-whole.ensures)
+    rw (c.joined.ensures, c.to_parent-moved.ensures, c.frame_at.ensures)
+    (gathered-more _ _ _ c.args.arm.now.good.tree.below c.if-i-eq0.false (sym c.parent_at.ensures.0 ∙ c.if-parent_at-l.false) c.gathered-c.ensures c.gathered-whole.ensures)

@@ -3,4 +3,4 @@ use Rattle.plain_entries.proofs.Depths.{composite-is}
 use Rattle.plain_entries.proofs.gather.composite_of.Goals as goal
 
 pub returns : goal.returns
-returns c = c.gathered.ensures ∙ sym (composite-is _ c.requires.0.tree.below _)
+returns c = c.gathered.ensures ∙ sym (composite-is _ c.args.arm.now.good.tree.below _)

@@ -5,7 +5,6 @@ use borrow.Author.Tests.{tests}
 use Rattle.std.proofs.lemmas.Iterator.{YieldsList-from_range}
 use Rattle.std.proofs.lemmas.Iterator.Search.{all_from_yields_List}
 use Rattle.numbers.specs.Double.{finite}
-use Rattle.arm.specs.Model.{bundle}
 use Rattle.plain_entries.specs.Arm.{arm_of}
 use Rattle.plain_matrix.specs.PlainMatrix.{plain_number, plain_entries}
 use Rattle.plain_matrix.proofs.Listed.{all_listed}
@@ -14,6 +13,7 @@ use Rattle.plain_matrix.proofs.matrix.entries_finite.Goals as goal
 pub returns : goal.returns
 unfolding plain_entries
 returns c =
-    let a = arm_of (bundle c.args.p.n c.args.parents.now c.args.kinds.now c.args.origins.now c.args.axes.now c.args.links.now c.args.rotors.now) c.args.q.now in
-    all_from_yields_List (λ t. finite (plain_number a c.args.p c.args.r c.args.kinds.now t)) _ _ _ c.all.ensures.ran (YieldsList-from_range 0 _ _ refl (omega arith)) (λ x b q k. search (rules, tests))
+    let t = c.args.task.now in
+    let number = plain_number (arm_of t.fitted.model.now t.q.now) t.fitted.plan t.fitted.rotation t.fitted.model.now.kinds in
+    all_from_yields_List (λ k. finite (number k)) _ _ _ c.all.ensures.ran (YieldsList-from_range 0 _ _ refl (omega arith)) (λ x b q k. search (rules, tests))
     ∙ all_listed _ _

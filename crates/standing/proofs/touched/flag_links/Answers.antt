@@ -8,23 +8,23 @@ use Rattle.standing.specs.Standing.{another}
 use Rattle.standing.proofs.Flags.{and_is, and-not}
 use Rattle.standing.proofs.Climbs.{Gathers, gathers-begin, gathers-on, gathers-over, gathers-end}
 use Rattle.standing.proofs.touched.flag_links.Goals as goal
-use Rattle.standing.proofs.touched.flag_links.Goals.{Joined-links-x, then-links-x, else-links-x}
+use Rattle.standing.proofs.touched.flag_links.Goals.{Joined-changes-x, then-changes-x, else-changes-x}
 
 pub loop-x-init : goal.loop-x-init
 loop-x-init c = gathers-begin _ _
 
 -- link x is done
-next : (c : Joined-links-x) → Gathers (λ l x. carries (parent_of c.args.parents.now) l x && another c.args.links.now x) c.args.flags.now c.if-links-x.flags (c.loop-x.x + 1)
+next : (c : Joined-changes-x) → Gathers (λ l x. carries (parent_of c.args.model.now.parents) l x && another c.args.changes.now.links x) c.args.flags.now c.if-changes-x.flags (c.loop-x.x + 1)
 next c =
-    let P = parent_of c.args.parents.now in
+    let P = parent_of c.args.model.now.parents in
     let g = c.loop-x.invariant in
-    elim c.if-links-x.branch [
-      | then-links-x w ↦ gathers-on _ _ _ _ g (λ l. carries P l c.loop-x.x) 33 _ c.requires.1 (w.flags-is ∙ w.flag_up.ensures) (λ l. and_is (carries P l c.loop-x.x) w.if-links-x.true)
-      | else-links-x w ↦ rw w.flags-is (gathers-over _ _ _ _ g (λ l. and-not (carries P l c.loop-x.x) w.if-links-x.false))
+    elim c.if-changes-x.branch [
+      | then-changes-x w ↦ gathers-on _ _ _ _ g (λ l. carries P l c.loop-x.x) 33 _ c.requires.1 (w.flags-is ∙ w.flag_up.ensures) (λ l. and_is (carries P l c.loop-x.x) w.if-changes-x.true)
+      | else-changes-x w ↦ rw w.flags-is (gathers-over _ _ _ _ g (λ l. and-not (carries P l c.loop-x.x) w.if-changes-x.false))
     ]
 
 pub loop-x-preserved : goal.loop-x-preserved
-loop-x-preserved c = next (goal.at.loop-x-preserved c).Joined-links-x
+loop-x-preserved c = next (goal.at.loop-x-preserved c).Joined-changes-x
 
-pub returns-after-links-x : goal.returns-after-links-x
-returns-after-links-x c = gathers-end _ _ _ _ (next (goal.at.returns-after-links-x c).Joined-links-x) 33 (suc c.args.n) c.requires.1 (omega arith)
+pub returns-after-changes-x : goal.returns-after-changes-x
+returns-after-changes-x c = gathers-end _ _ _ _ (next (goal.at.returns-after-changes-x c).Joined-changes-x) 33 (suc c.args.model.now.n) c.requires.1 (omega arith)
