@@ -1,6 +1,6 @@
 // The requests of the four calculations, once, many times, or from a position.
-ghost use Rattle.std.specs.Prelude.{◌≡◌, ◌++◌, ◌+◌, ◌≤◌, [], length, take, option_map, IfSome};
-ghost use Rattle.words.specs.Read.{ReadBy};
+ghost use Rattle.std.specs.Prelude.{◌≡◌, ◌++◌, ◌+◌, ◌≤◌, length, take, option_map, IfSome};
+ghost use Rattle.words.specs.Read.{ReadBy, AllReadBy};
 ghost use Rattle.replies.specs.Replies.{room, text_of};
 ghost use Rattle.readings.specs.Lent.{ones};
 ghost use Rattle.readings.specs.Read.{inputs_of};
@@ -70,7 +70,7 @@ fn next_task(
     inputs: &mut Buffers,
     budgets: &mut Buffer<u64>,
 ) -> Option<(Calculation, Lent)>
-    ensures read { ReadBy (task how k) words.entry (option_map (λ t. task_by t (inputs_of inputs.new) budgets.new) result) [] }
+    ensures read { AllReadBy (task how k) words.entry (option_map (λ t. task_by t (inputs_of inputs.new) budgets.new) result) }
     ensures few { IfSome result (λ t. (t.1.ws ≤ 4096) × (t.1.out ≤ 2048)) }
 {
     let c = next_calculation(&mut words, k)?;
@@ -100,11 +100,13 @@ pub fn calculate(m: Model, how: How, k: Kind, words: Words, text: &mut [u8], at:
 fn next_times(words: &mut Words) -> Option<(How, Kind)>
     ensures { ReadBy times words.old result words.new }
 {
-    let count = words.next_number()?;
-    let k = next_kind(words)?;
+    let mut left = words.copy();
+    let count = left.next_number()?;
+    let k = next_kind(&mut left)?;
     if count == 0 || 1000000 < count {
         return None;
     }
+    *words = left;
     Some((How::Times(count), k))
 }
 
@@ -125,8 +127,10 @@ pub fn repeat(m: Model, mut words: Words, text: &mut [u8], at: usize) -> usize
 fn next_from(words: &mut Words) -> Option<(How, Kind)>
     ensures { ReadBy from words.old result words.new }
 {
-    let position = next_position(words)?;
-    let k = next_kind(words)?;
+    let mut left = words.copy();
+    let position = next_position(&mut left)?;
+    let k = next_kind(&mut left)?;
+    *words = left;
     Some((How::From(position), k))
 }
 

@@ -30,14 +30,19 @@ pub fn read_numbers(
 ) -> Option<Sizes>
     ensures { ReadBy handed words.old (handed_read result parents.new kinds.new origins.new axes.new links.new rotors.new) words.new × HandedIn result parents.new kinds.new origins.new axes.new links.new rotors.new }
 {
+    let mut left = words.copy();
     let sizes = Sizes {
-        n: words.next_number()? as usize,
-        parents: words.list(parents)?,
-        kinds: words.list(kinds)?,
-        origins: words.list(origins)?,
-        axes: words.list(axes)?,
-        links: words.list(links)?,
-        rotors: words.list(rotors)?,
+        n: left.next_number()? as usize,
+        parents: left.list(parents)?,
+        kinds: left.list(kinds)?,
+        origins: left.list(origins)?,
+        axes: left.list(axes)?,
+        links: left.list(links)?,
+        rotors: left.list(rotors)?,
     };
-    if words.at_end() { Some(sizes) } else { None }
+    if !left.at_end() {
+        return None;
+    }
+    *words = left;
+    Some(sizes)
 }

@@ -23,8 +23,9 @@ fn lent(words: &mut Words) -> Option<Model>
     let mut axes = double_buffer();
     let mut links = double_buffer();
     let mut rotors = double_buffer();
+    let mut left = words.copy();
     let sizes = read_numbers(
-        words,
+        &mut left,
         &mut parents,
         &mut kinds,
         &mut origins,
@@ -32,7 +33,9 @@ fn lent(words: &mut Words) -> Option<Model>
         &mut links,
         &mut rotors,
     )?;
-    lent_model(sizes, &parents, &kinds, &origins, &axes, &links, &rotors)
+    let model = lent_model(sizes, &parents, &kinds, &origins, &axes, &links, &rotors)?;
+    *words = left;
+    Some(model)
 }
 
 #[tactic(auto, unfolding(crate::specs::Lend::lend_request))]

@@ -1,6 +1,6 @@
 // The requests `plain_matrix` and `plain_floating_matrix`.
-ghost use Rattle.std.specs.Prelude.{◌≡◌, ◌++◌, ◌+◌, ◌≤◌, [], length, take, option_map, IfSome};
-ghost use Rattle.words.specs.Read.{ReadBy};
+ghost use Rattle.std.specs.Prelude.{◌≡◌, ◌++◌, ◌+◌, ◌≤◌, length, take, option_map, IfSome};
+ghost use Rattle.words.specs.Read.{AllReadBy};
 ghost use Rattle.replies.specs.Replies.{room, text_of};
 ghost use Rattle.readings.specs.Lent.{ones};
 ghost use Rattle.plain_matrix.specs.PlainMatrix.{plain_call};
@@ -30,7 +30,7 @@ fn answer(m: Model, mode: Mode, q: &[f64], size: usize, text: &mut [u8], at: usi
 // R where the root floats, Q and OUT, and no word behind them.
 #[tactic(auto, unfolding(crate::specs::Request::plain, words::specs::Read::end))]
 fn next_plain(mut words: Words, floating: bool, q: &mut Buffer<f64>) -> Option<(Mode, usize)>
-    ensures read { ReadBy (plain floating) words.entry (option_map (λ p. (p.0, q.new, p.1)) result) [] }
+    ensures read { AllReadBy (plain floating) words.entry (option_map (λ p. (p.0, q.new, p.1)) result) }
     ensures few { IfSome result (λ p. p.1 ≤ 2048) }
 {
     let mode = next_mode(&mut words, floating)?;

@@ -1,6 +1,6 @@
 // What a calculation's request hands in, read off the words of a line.
-ghost use Rattle.std.specs.Prelude.{◌≡◌, ◌≤◌, [], option_map, IfSome};
-ghost use Rattle.words.specs.Read.{ReadBy};
+ghost use Rattle.std.specs.Prelude.{◌≡◌, ◌≤◌, option_map, IfSome};
+ghost use Rattle.words.specs.Read.{ReadBy, AllReadBy};
 ghost use Rattle.readings.specs.Read.{kind_named, kind, rotation, velocity, mode, calculation, rest, inputs, no_inputs, inputs_of, lengths, lengths_by, flag, position};
 
 use crate::buffer::Buffer;
@@ -60,11 +60,14 @@ pub fn kind_of(w: &[u8]) -> Option<Kind>
 pub fn next_flag(words: &mut Words) -> Option<bool>
     ensures { ReadBy flag words.old result words.new }
 {
-    match words.next_number()? {
-        0 => Some(false),
-        1 => Some(true),
-        _ => None,
-    }
+    let mut left = words.copy();
+    let flag = match left.next_number()? {
+        0 => false,
+        1 => true,
+        _ => return None,
+    };
+    *words = left;
+    Some(flag)
 }
 
 // CALCULATION ROOT N A VISITS CLOSED.
@@ -72,21 +75,27 @@ pub fn next_flag(words: &mut Words) -> Option<bool>
 pub fn next_position(words: &mut Words) -> Option<Position>
     ensures { ReadBy position words.old result words.new }
 {
-    Some(Position {
-        matrix: next_flag(words)?,
-        floating: next_flag(words)?,
-        n: words.next_number()? as usize,
-        a: words.next_number()? as usize,
-        visits: words.next_number()? as usize,
-        closed: next_flag(words)?,
-    })
+    let mut left = words.copy();
+    let position = Position {
+        matrix: next_flag(&mut left)?,
+        floating: next_flag(&mut left)?,
+        n: left.next_number()? as usize,
+        a: left.next_number()? as usize,
+        visits: left.next_number()? as usize,
+        closed: next_flag(&mut left)?,
+    };
+    *words = left;
+    Some(position)
 }
 
 #[tactic(auto, unfolding(crate::specs::Read::kind))]
 pub fn next_kind(words: &mut Words) -> Option<Kind>
     ensures { ReadBy kind words.old result words.new }
 {
-    kind_of(words.next_word()?)
+    let mut left = words.copy();
+    let kind = kind_of(left.next_word()?)?;
+    *words = left;
+    Some(kind)
 }
 
 // R: w x y z.
@@ -132,8 +141,10 @@ pub fn next_calculation(words: &mut Words, k: Kind) -> Option<Calculation>
         Kind::FloatingMatrix => Calculation::Matrix(next_mode(words, true)?),
         Kind::Forward => Calculation::Forward(forward::Mode::Fixed(next_rotation(words)?)),
         Kind::FloatingForward => {
-            let r = next_rotation(words)?;
-            let v = next_velocity(words)?;
+            let mut left = words.copy();
+            let r = next_rotation(&mut left)?;
+            let v = next_velocity(&mut left)?;
+            *words = left;
             Calculation::Forward(forward::Mode::Floating(r, v))
         }
     })
@@ -158,10 +169,13 @@ impl Buffers {
 fn next_rest(words: &mut Words, b: &mut Buffers) -> Option<()>
     ensures { ReadBy (rest b.old.q) words.old (option_map (λ _. inputs_of b.new) result) words.new }
 {
-    b.qd.read(words)?;
-    b.forces.read(words)?;
-    b.loaded.read(words)?;
-    b.loads.read(words)
+    let mut left = words.copy();
+    b.qd.read(&mut left)?;
+    b.forces.read(&mut left)?;
+    b.loaded.read(&mut left)?;
+    b.loads.read(&mut left)?;
+    *words = left;
+    Some(())
 }
 
 // Q, or Q QD F LINKS LOADS.
@@ -169,23 +183,25 @@ fn next_rest(words: &mut Words, b: &mut Buffers) -> Option<()>
 pub fn next_inputs(words: &mut Words, c: Calculation, b: &mut Buffers) -> Option<()>
     ensures { ReadBy (inputs c) words.old (option_map (λ _. inputs_of b.new) result) words.new }
 {
-    b.q.read(words)?;
+    let mut left = words.copy();
+    b.q.read(&mut left)?;
     match c {
         Calculation::Matrix(_) => {
             b.qd.clear();
             b.forces.clear();
             b.loaded.clear();
             b.loads.clear();
-            Some(())
         }
-        Calculation::Forward(_) => next_rest(words, b),
+        Calculation::Forward(_) => next_rest(&mut left, b)?,
     }
+    *words = left;
+    Some(())
 }
 
 // WS OUT PORTIONS, and no word behind them.
 #[tactic(auto, unfolding(crate::specs::Read::lengths, words::specs::Read::end))]
 pub fn last_lent(mut words: Words, budgets: &mut Buffer<u64>) -> Option<Lent>
-    ensures read { ReadBy lengths words.entry (option_map (λ l. lengths_by l budgets.new) result) [] }
+    ensures read { AllReadBy lengths words.entry (option_map (λ l. lengths_by l budgets.new) result) }
     ensures few { IfSome result (λ l. (l.ws ≤ 4096) × (l.out ≤ 2048)) }
 {
     let ws = words.next_number()?;

@@ -1,6 +1,6 @@
 // The requests that reach the number routines: `root X` and `half_turn Q`.
-ghost use Rattle.std.specs.Prelude.{◌≡◌, ◌++◌, ◌+◌, ◌≤◌, [], length, take};
-ghost use Rattle.words.specs.Read.{ReadBy};
+ghost use Rattle.std.specs.Prelude.{◌≡◌, ◌++◌, ◌+◌, ◌≤◌, length, take};
+ghost use Rattle.words.specs.Read.{AllReadBy};
 ghost use Rattle.replies.specs.Replies.{room, text_of};
 ghost use Rattle.routine_requests.specs.Routines.{only_double, root_line, root_request, half_turn_line, half_turn_request};
 
@@ -13,7 +13,7 @@ use words::write::{Word, put};
 // One double, and no word behind it.
 #[tactic(auto, unfolding(crate::specs::Routines::only_double, words::specs::Read::end))]
 fn only_double(mut words: Words) -> Option<f64>
-    ensures { ReadBy only_double words.entry result [] }
+    ensures { AllReadBy only_double words.entry result }
 {
     let pattern = words.next_number()?;
     if !words.at_end() {

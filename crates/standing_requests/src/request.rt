@@ -47,12 +47,14 @@ fn next_named(words: &mut Words, n: u64, more: u64, flags: &mut [bool]) -> Optio
     ensures { ReadBy (named (n + more) (length flags.old)) words.old (option_map (λ _. flags.new) result) words.new }
 {
     let mut list = number_buffer();
-    let size = words.list(&mut list)?;
+    let mut left = words.copy();
+    let size = left.list(&mut list)?;
     let listed = &list[..size];
     if !all_below(listed, n, more) {
         return None;
     }
     flag_listed(listed, flags);
+    *words = left;
     Some(())
 }
 
@@ -95,18 +97,20 @@ fn answer(m: Model, floating: bool, changes: &Changes, text: &mut [u8], at: usiz
 fn next_told(n: u64, words: &mut Words) -> Option<(bool, Changes)>
     ensures { ReadBy (told n) words.old result words.new }
 {
-    let floating = next_flag(words)?;
+    let mut left = words.copy();
+    let floating = next_flag(&mut left)?;
     let mut links = [false; 33];
     let mut frames = [false; 32];
     let mut axes = [false; 32];
     let mut rotors = [false; 32];
-    next_named(words, n, 1, &mut links)?;
-    next_named(words, n, 0, &mut frames)?;
-    next_named(words, n, 0, &mut axes)?;
-    next_named(words, n, 0, &mut rotors)?;
-    if !words.at_end() {
+    next_named(&mut left, n, 1, &mut links)?;
+    next_named(&mut left, n, 0, &mut frames)?;
+    next_named(&mut left, n, 0, &mut axes)?;
+    next_named(&mut left, n, 0, &mut rotors)?;
+    if !left.at_end() {
         return None;
     }
+    *words = left;
     let changes = Changes {
         links,
         frames,

@@ -1,5 +1,5 @@
 -- What is read of a line: its words, and readers of words. Assumes nothing.
-use Rattle.std.specs.Prelude.{ℕ, ◌+◌, ◌-◌, ◌*◌, ◌≡◌, Bool, true, false, cond, ◌&&◌, ◌||◌, List, [], ◌∷◌, length, ltb, leb, eqb, Option, Some, None, option_and_then}
+use Rattle.std.specs.Prelude.{ℕ, ◌+◌, ◌-◌, ◌*◌, ◌≡◌, Bool, true, false, cond, ◌&&◌, ◌||◌, List, [], ◌∷◌, length, ltb, leb, eqb, Option, Some, None, option_and_then, IfNone}
 
 -- ---- words: runs of bytes that are no space
 abbrev pub is_space : ℕ → Bool
@@ -83,6 +83,10 @@ abbrev pub leaving : {A : Type 0} → Option A → List (List ℕ) → Option (A
 leaving None ws = None
 leaving (Some a) ws = Some (a, ws)
 
--- WHAT A FUNCTION READS is what a reader takes off the words before it; of the words behind a refusal nothing is said
+-- WHAT A FUNCTION READS is what a reader takes off the words before it; a refusal leaves the words as they were
 abbrev pub ReadBy : {A : Type 0} → Reader A → List (List ℕ) → Option A → List (List ℕ) → Type 0
-ReadBy reader before r behind = leaving r behind ≡ reader before
+ReadBy reader before r behind = (leaving r behind ≡ reader before) × IfNone r (behind ≡ before)
+
+-- what a function makes of all the words of a line
+abbrev pub AllReadBy : {A : Type 0} → Reader A → List (List ℕ) → Option A → Type 0
+AllReadBy reader before r = leaving r [] ≡ reader before

@@ -48,13 +48,15 @@ pub fn double_buffer() -> [f64; 4096]
 
 impl<'a> Words<'a> {
     // As many items as there is room for.
-    #[tactic(auto, using(crate::proofs::list::Laws::fill_start, crate::proofs::list::Laws::fill_none, crate::proofs::list::Laws::fill_end))]
+    #[tactic(auto, using(crate::proofs::list::Laws::fill_start))]
     pub fn fill<T: Item>(&mut self, into: &mut [T]) -> Option<()>
         ensures { ReadBy (items T.item (length into.old)) self.old (option_map (λ _. into.new) result) self.new }
     {
+        let mut words = self.copy();
         for k in 0..into.len() {
-            into[k] = T::of(self.next_number()?);
+            into[k] = T::of(words.next_number()?);
         }
+        *self = words;
         Some(())
     }
 
@@ -62,10 +64,12 @@ impl<'a> Words<'a> {
     fn size(&mut self) -> Option<usize>
         ensures { ReadBy size self.old result self.new × IfSome result (λ n. n ≤ 4096) }
     {
-        let n = self.next_number()?;
+        let mut words = self.copy();
+        let n = words.next_number()?;
         if 4096 < n {
             return None;
         }
+        *self = words;
         Some(n as usize)
     }
 
@@ -75,8 +79,10 @@ impl<'a> Words<'a> {
         requires { 4096 ≤ length into.old }
         ensures { ListBy (list T.item) self.old into.new result self.new }
     {
-        let n = self.size()?;
-        self.fill(&mut into[..n])?;
+        let mut words = self.copy();
+        let n = words.size()?;
+        words.fill(&mut into[..n])?;
+        *self = words;
         Some(n)
     }
 }

@@ -5,7 +5,7 @@ ghost use Rattle.words.specs.Read.{words_of, no_word, digit_of, number_of, word,
 use std::marker::Model;
 
 // The words that are not read yet of a line.
-#[derive(Drop)]
+#[derive(Clone, Drop)]
 pub struct Words<'a> {
     rest: &'a [u8],
 }
@@ -23,6 +23,13 @@ impl<'a> Words<'a> {
         Words { rest: line }
     }
 
+    // The same words once more, to read on in.
+    pub fn copy(&self) -> Words<'a>
+        ensures { result ≡ self.now }
+    {
+        Words { rest: self.rest }
+    }
+
     pub fn next_word(&mut self) -> Option<&'a [u8]>
         ensures { ReadBy word self.old (option_copied result) self.new }
     {
@@ -38,7 +45,10 @@ impl<'a> Words<'a> {
     pub fn next_number(&mut self) -> Option<u64>
         ensures { ReadBy number self.old result self.new }
     {
-        number_of(self.next_word()?)
+        let mut words = self.copy();
+        let number = number_of(words.next_word()?)?;
+        *self = words;
+        Some(number)
     }
 
     // Whether nothing but spaces is left.

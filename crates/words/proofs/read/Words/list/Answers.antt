@@ -1,5 +1,5 @@
 -- `Words::list` meets its contract. A list is its items, behind their number.
-use mathlib.Core.Path.{◌≡◌, ◌∙◌}
+use mathlib.Core.Path.{◌≡◌, refl, ◌∙◌}
 use native.Mathlib.Nat.{le_trans}
 use native.Mathlib.Omega.{arith}
 use lib.ListN.{length, take, drop, length-append}
@@ -14,13 +14,13 @@ pub returns-in_err-fill : goal.returns-in_err-fill
 unfolding list
 returns-in_err-fill g c =
     let e : length (take c.in_ok-n.n c.args.into.now) ≡ c.in_ok-n.n = length-take-le _ _ (le_trans (rw c.in_ok-n.was at c.size.ensures.1) c.requires) in
-    rw c.from_residual-in_err-fill.ensures (rw (← (rw c.in_ok-n.was at c.size.ensures.0)) (rw (e, c.in_err-fill.was) at c.fill.ensures), tt)
+    rw c.from_residual-in_err-fill.ensures ((rw (← (rw (c.copy-words.ensures, c.in_ok-n.was) at c.size.ensures.0.0)) (rw (e, c.in_err-fill.was) at c.fill.ensures.0), refl), tt)
 
 pub returns : goal.returns
 unfolding list
 returns g c =
     let e : length (take c.in_ok-n.n c.args.into.now) ≡ c.in_ok-n.n = length-take-le _ _ (le_trans (rw c.in_ok-n.was at c.size.ensures.1) c.requires) in
     let d : length c.fill.new.into ≡ c.in_ok-n.n = c.fill.auto.into ∙ e in (
-      rw (take_at c.fill.new.into _ _ d, ← (rw c.in_ok-n.was at c.size.ensures.0)) (rw (e, c.in_ok-fill.was) at c.fill.ensures),
+      (rw (take_at c.fill.new.into _ _ d, ← (rw (c.copy-words.ensures, c.in_ok-n.was) at c.size.ensures.0.0)) (rw (e, c.in_ok-fill.was) at c.fill.ensures.0), tt),
       omega (arith, d, length-append c.fill.new.into (drop c.in_ok-n.n c.args.into.now)),
     )
