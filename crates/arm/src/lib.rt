@@ -3,4 +3,5 @@
 
 pub mod joint;
 pub mod model;
+pub mod posed;
 pub mod topology;

@@ -2,30 +2,34 @@
 use mathlib.Core.Bool.{false}
 use mathlib.Core.List.{List}
 use mathlib.Core.Path.{◌≡◌}
-use Prim.Native.Nat.{◌+◌, ◌-◌, ◌<◌}
+use Prim.Native.Nat.{ℕ, ◌+◌, ◌-◌, ◌<◌}
 use native.Mathlib.Omega.{arith}
 use lib.Ieee.{Float}
+use Rattle.numbers.specs.declared.quaternion.Quaternion.{Quaternion}
+use Rattle.spatial.specs.declared.twist.Twist.{Twist}
 use Rattle.arm.specs.declared.model.Model.{Model}
 use Rattle.articulated.specs.Root.{root_velocity}
 use Rattle.calls.specs.Plan.{plan_by, plan_of, Within}
 use Rattle.calls.specs.Position.{visits_of, advanced_by}
 use Rattle.calls.specs.Portions.{Sound}
+use Rattle.calls.specs.declared.plan.Plan.{Plan}
 use Rattle.calls.specs.declared.position.Outcome.{Outcome}
 use Rattle.calls.specs.declared.position.Position.{Position}
 use Rattle.calls.specs.declared.position.Progress.{Progress}
 use Rattle.calls.proofs.Steps.{still-within}
-use Rattle.forward_visits.specs.Kernel.{visits_for}
-use Rattle.forward_visits.specs.declared.task.Task.{Task}
+use Rattle.forward_visits.specs.Kernel.{visit_of}
 use Rattle.forward_visits.proofs.Kept.{length-visit, last-ends, others-wait}
 use Rattle.forward_dynamics.specs.ForwardDynamics.{floats, rotation_of, base_velocity, forward_dynamics}
 use Rattle.forward_visits.specs.Inputs.{Inputs}
 use Rattle.forward_dynamics.specs.declared.forward_dynamics.Mode.{Mode}
 
 -- after a visit that leaves it open, a position has a visit left
-pub within-after : (task : Task) (s : Position) (ws : List Float) {o : Outcome} {ws' : List Float} {t : Progress}
-    → s.visits < visits_of false task.arm.plan.n (task.arm.plan.side - task.arm.plan.lead) → (o, ws') ≡ visits_for task s.visits ws → t ≡ advanced_by s o → Within false task.arm.plan t.position
+pub within-after : (p : Plan) (rotation : Quaternion) (velocity : Twist) (m : Model) (q qd forces : List Float) (loaded : List ℕ) (loads : List Float) (s : Position) (ws : List Float)
+    {o : Outcome} {ws' : List Float} {t : Progress}
+    → s.visits < visits_of false p.n (p.side - p.lead) → (o, ws') ≡ visit_of p rotation velocity m q qd forces loaded loads s.visits ws → t ≡ advanced_by s o → Within false p t.position
 unfolding visits_of
-within-after task = let p = task.arm.plan in still-within (visits_for task) (p.n + p.n + p.n + 1) (λ k ws e. last-ends p _ _ _ _ _ _ _ _ k ws (omega arith))
+within-after p rotation velocity m q qd forces loaded loads =
+    still-within (visit_of p rotation velocity m q qd forces loaded loads) (p.n + p.n + p.n + 1) (λ k ws e. last-ends p rotation velocity m q qd forces loaded loads k ws (omega arith))
 
 pub sound : (mode : Mode) (m : Model) (i : Inputs) → Sound (forward_dynamics mode m i)
 unfolding forward_dynamics visits_of plan_by

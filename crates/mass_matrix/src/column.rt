@@ -16,7 +16,7 @@ pub fn column(side: usize, column: usize, matrix: &[f64]) -> &[f64]
     ensures { result.now ≡ column_of side column matrix.now }
 {
     if bad_column(side, column, matrix.len()) {
-        return &[];
+        return &matrix[0..0];
     }
     let from = column * side;
     &matrix[from..from + side]

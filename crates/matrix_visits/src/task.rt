@@ -2,8 +2,8 @@
 ghost use Rattle.std.specs.Prelude.{◌≡◌, length};
 ghost use Rattle.arm.specs.Topology.{actives_of};
 
+use arm::posed::Posed;
 use matrix_columns::fitted::Fitted;
-use plain_entries::posed::Posed;
 
 // A fitted model, and as many numbers of q as it has active joints.
 #[derive(Clone, Copy)]

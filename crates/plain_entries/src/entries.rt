@@ -5,8 +5,8 @@ ghost use Rattle.plain_entries.specs.Arm.{arm_of};
 ghost use Rattle.plain_entries.specs.Entries.{answer_of, along, entry_between, to_root, root_answer};
 
 use crate::gather;
-use crate::posed::Posed;
 use arm::joint;
+use arm::posed::Posed;
 use composites::composite;
 use spatial::operators;
 use spatial::wrench::Wrench;

@@ -3,8 +3,8 @@ ghost use Rattle.std.specs.Prelude.{◌≡◌, ◌≤◌};
 ghost use Rattle.plain_entries.specs.Arm.{arm_of};
 ghost use Rattle.plain_entries.specs.Gather.{gathered_of, composite_of};
 
-use crate::posed::Posed;
 use arm::model::Link;
+use arm::posed::Posed;
 use composites::composite;
 
 // Link l and its children among the i highest joints.

@@ -3,4 +3,3 @@
 
 pub mod entries;
 pub mod gather;
-pub mod posed;

@@ -2,7 +2,7 @@
 use mathlib.Core.Bool.{Bool, true, false, cond}
 use mathlib.Core.List.{List}
 use mathlib.Core.Path.{◌≡◌, refl, sym, ap, ◌∙◌}
-use Prim.Native.Nat.{ℕ, ◌*◌}
+use Prim.Native.Nat.{ℕ, ◌+◌, ◌*◌, ◌≤◌}
 use lib.ListN.{length}
 use lib.Ieee.{Float}
 use Rattle.numbers.specs.Double.{all_finite}
@@ -12,7 +12,7 @@ use Rattle.refusals.specs.Refusals.{Verdict, fine, refusal}
 use Rattle.refusals.specs.declared.Refusal.{Refusal}
 use Rattle.arm.specs.Topology.{actives_of, active_numbers}
 use Rattle.arm.specs.declared.model.Model.{Model}
-use Rattle.calls.specs.Plan.{plan_by, plan_of, Fit}
+use Rattle.calls.specs.Plan.{plan_by, plan_of}
 use Rattle.calls.specs.declared.plan.Plan.{Plan}
 use Rattle.calls.specs.declared.position.Outcome.{Outcome}
 use Rattle.calls.specs.declared.position.Outcome.TheVariants.{Accepted}
@@ -33,22 +33,24 @@ module _ (mode : Mode) (m : Model) (q out : List Float) {v : Verdict} (ev : v �
     is-plan : p ≡ plan_by (floats mode) m.n a
     is-plan = rw ep (ap (λ (b : Bool). plan_by b m.n a) ef)
 
-    module _ (numbers : List ℕ) (en : numbers ≡ active_numbers m.kinds) where
-      shown : Ready p m.parents m.kinds numbers (length q) (room (floats mode) (rotation_of mode) m.n m.parents m.kinds q (length out)) (length out)
-      shown = ready (floats mode) (rotation_of mode) m.n m.parents m.kinds q (length out) (sym ev ∙ e) numbers en a ea is-plan
+    shown : Ready p m.parents m.kinds (active_numbers m.kinds) (length q) (room (floats mode) (rotation_of mode) m.n m.parents m.kinds q (length out)) (length out)
+    shown = ready (floats mode) (rotation_of mode) m.n m.parents m.kinds q (length out) (sym ev ∙ e) (active_numbers m.kinds) refl a ea is-plan
 
-      pub fitting : Fit p m.parents m.kinds numbers
-      fitting = shown.fit
-
-    pub joints : m.n ≡ p.n
+    joints : p.n ≡ m.n
     unfolding plan_by
     joints = rw ep
 
-    pub values : length q ≡ actives_of m.kinds p.n
-    values = (shown (active_numbers m.kinds) refl).values
+    pub values : length q ≡ actives_of m.kinds m.n
+    values = shown.values ∙ ap (actives_of m.kinds) joints
 
-    pub sized : length out ≡ p.side * p.side
-    sized = (shown (active_numbers m.kinds) refl).output
+    sided : p.side ≡ p.lead + actives_of m.kinds m.n
+    sided = shown.fit.sided ∙ ap (λ (n : ℕ). p.lead + actives_of m.kinds n) joints
+
+    pub fits : (p.lead ≤ 6) × (p.side ≡ p.lead + actives_of m.kinds m.n) × (p.side ≤ 38)
+    fits = (shown.fit.led, sided, shown.room.small)
+
+    pub takes : (p.lead ≤ 6) × (p.side ≡ p.lead + actives_of m.kinds m.n) × (length out ≡ p.side * p.side)
+    takes = (shown.fit.led, sided, shown.output)
 
     abbrev mine : List Float
     mine = plain_entries (arm_of m q) p r m.kinds

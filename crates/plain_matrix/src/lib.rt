@@ -9,13 +9,12 @@ ghost use Rattle.mass_matrix.specs.MassMatrix.{floats, rotation_of};
 ghost use Rattle.plain_matrix.specs.PlainMatrix.{plain_verdict, plain_call};
 
 use arm::model::Model;
+use arm::posed::Posed;
 use arm::{model, topology};
 use calls::plan;
 use calls::position::Outcome;
 use mass_matrix::checks;
 use mass_matrix::mass_matrix::Mode;
-use matrix_columns::fitted::Fitted;
-use matrix_visits::task::Task;
 use refusals::Refusal;
 
 // The checks of the matrix but for 10.
@@ -47,16 +46,16 @@ pub fn plain_matrix<'a>(mode: Mode, model: &'a Model, q: &'a [f64], out: &mut [f
         Err(refusal) => Outcome::Refused(refusal),
         Ok(()) => {
             let a = topology::number_at(&model.kinds, &numbers, model.n);
-            let fitted = Fitted {
-                plan: plan::planned(mode.floats(), model.n, a),
-                rotation: mode.rotation(),
+            let p = plan::planned(mode.floats(), model.n, a);
+            let r = mode.rotation();
+            let arm = Posed {
                 model,
                 numbers: &numbers,
+                q,
             };
-            let task = Task { fitted, q };
-            let finite = matrix::entries_finite(&task);
+            let finite = matrix::entries_finite(p, r, &arm);
             if finite {
-                matrix::put_entries(&task, out);
+                matrix::put_entries(p, r, &arm, out);
                 return Outcome::Accepted;
             }
             Outcome::Refused(Refusal::plain(37))

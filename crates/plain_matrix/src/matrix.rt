@@ -6,12 +6,12 @@ ghost use Rattle.plain_entries.specs.Arm.{arm_of};
 ghost use Rattle.plain_matrix.specs.PlainMatrix.{joint_with, joint_entry, base_entry, corner_entry, entry_at, plain_number, plain_entries};
 
 use arm::model::Model;
+use arm::posed::Posed;
 use arm::topology;
+use calls::plan::Plan;
 use matrix_visits::kernel;
-use matrix_visits::task::Task;
 use numbers::double;
 use numbers::quaternion::Quaternion;
-use plain_entries::posed::Posed;
 use plain_entries::{entries, gather};
 
 // The joint of active number k.
@@ -78,30 +78,27 @@ fn entry_at(arm: &Posed, lead: usize, r: Quaternion, row: usize, column: usize) 
 }
 
 // Number t of the matrix, column by column.
-fn number(task: &Task, t: usize) -> f64
-    requires { t < task.now.fitted.plan.side * task.now.fitted.plan.side }
-    ensures { let m = task.now.fitted.model.now in result ≡ plain_number (arm_of m task.now.q.now) task.now.fitted.plan task.now.fitted.rotation m.kinds t }
+fn number(p: Plan, r: Quaternion, arm: &Posed, t: usize) -> f64
+    requires { let m = arm.now.model.now in (p.lead ≤ 6) × (p.side ≡ p.lead + actives_of m.kinds m.n) × (t < p.side * p.side) }
+    ensures { let m = arm.now.model.now in result ≡ plain_number (arm_of m arm.now.q.now) p r m.kinds t }
 {
-    let arm = task.arm();
-    let p = task.fitted.plan;
-    entry_at(&arm, p.lead, task.fitted.rotation, t % p.side, t / p.side)
+    entry_at(arm, p.lead, r, t % p.side, t / p.side)
 }
 
 // Whether every entry is finite.
-pub fn entries_finite(task: &Task) -> bool
-    requires { task.now.fitted.plan.side ≤ 38 }
-    ensures { let m = task.now.fitted.model.now in result ≡ all_finite (plain_entries (arm_of m task.now.q.now) task.now.fitted.plan task.now.fitted.rotation m.kinds) }
+pub fn entries_finite(p: Plan, r: Quaternion, arm: &Posed) -> bool
+    requires { let m = arm.now.model.now in (p.lead ≤ 6) × (p.side ≡ p.lead + actives_of m.kinds m.n) × (p.side ≤ 38) }
+    ensures { let m = arm.now.model.now in result ≡ all_finite (plain_entries (arm_of m arm.now.q.now) p r m.kinds) }
 {
-    let side = task.fitted.plan.side;
-    (0..side * side).all(|t| double::is_finite(number(task, t)))
+    (0..p.side * p.side).all(|t| double::is_finite(number(p, r, arm, t)))
 }
 
 // Every entry is written.
-pub fn put_entries(task: &Task, out: &mut [f64])
-    requires { length out.old ≡ task.now.fitted.plan.side * task.now.fitted.plan.side }
-    ensures { let m = task.now.fitted.model.now in out.new ≡ plain_entries (arm_of m task.now.q.now) task.now.fitted.plan task.now.fitted.rotation m.kinds }
+pub fn put_entries(p: Plan, r: Quaternion, arm: &Posed, out: &mut [f64])
+    requires { let m = arm.now.model.now in (p.lead ≤ 6) × (p.side ≡ p.lead + actives_of m.kinds m.n) × (length out.old ≡ p.side * p.side) }
+    ensures { let m = arm.now.model.now in out.new ≡ plain_entries (arm_of m arm.now.q.now) p r m.kinds }
 {
     for (t, entry) in out.iter_mut().enumerate() {
-        *entry = number(task, t);
+        *entry = number(p, r, arm, t);
     }
 }

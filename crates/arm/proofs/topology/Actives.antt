@@ -11,7 +11,7 @@ use lib.Dec.{eqb}
 use Rattle.std.proofs.lemmas.Bool.{cases_lt}
 use Rattle.std.specs.Option.{MatchOption}
 use Rattle.std.specs.Prelude.{Option, Some, None}
-use Rattle.refusals.proofs.Searches.{looks-hit, looks-last, looks-past, lowest-some, lowest-none}
+use Rattle.refusals.proofs.Searches.{Looks, looks-hit, looks-last, looks-past, lowest-some, lowest-none}
 use Rattle.arm.specs.Joint.{is_fixed}
 use Rattle.arm.specs.Model.{kind_of}
 use Rattle.arm.specs.Topology.{actives_of, holds_of, active_joint, Numbered}
@@ -42,6 +42,11 @@ module _ (kinds : List ℕ) where
       go false e = refl
 
   -- so the search may begin there
+  pub begins : (n k : ℕ) → k ≤ n → Looks (holds_of kinds k) n (active_joint kinds n k) k
+  unfolding active_joint
+  begins n k h = looks-past (holds_of kinds k) n k h (not-below k)
+
+  -- and where it finds none, none has number k
   clear : (k n : ℕ) → ((j : ℕ) → k ≤ j → j < n → holds_of kinds k j ≡ false) → (j : ℕ) → j < n → holds_of kinds k j ≡ false
   clear k n f j h = ⊎_elim (not-below k j) (λ g. f j g h) (cases_lt j k)
 

@@ -13,7 +13,7 @@ use Rattle.plain_matrix.proofs.matrix.entries_finite.Goals as goal
 pub returns : goal.returns
 unfolding plain_entries
 returns c =
-    let t = c.args.task.now in
-    let number = plain_number (arm_of t.fitted.model.now t.q.now) t.fitted.plan t.fitted.rotation t.fitted.model.now.kinds in
+    let a = c.args.arm.now in
+    let number = plain_number (arm_of a.model.now a.q.now) c.args.p c.args.r a.model.now.kinds in
     all_from_yields_List (λ k. finite (number k)) _ _ _ c.all.ensures.ran (YieldsList-from_range 0 _ _ refl (omega arith)) (λ x b q k. search (rules, tests))
     ∙ all_listed _ _

@@ -6,7 +6,7 @@ use Rattle.plain_matrix.proofs.matrix.put_entries.Invariants.{}
 use Rattle.plain_matrix.proofs.matrix.put_entries.Goals as goal
 
 pub loop-t-init : goal.loop-t-init
-loop-t-init c = none _ _ _ c.requires zero-le
+loop-t-init c = none _ _ _ c.requires.2 zero-le
 
 pub loop-t-preserved : goal.loop-t-preserved
 loop-t-preserved c = more _ _ _ _ _ c.loop-t.invariant (omega arith) c.number.ensures

@@ -3,9 +3,9 @@ ghost use Rattle.std.specs.Prelude.{◌≡◌, ◌≤◌, ◌<◌, length};
 ghost use Rattle.arm.specs.Model.{Good, parent_of, motion_of, link_of};
 ghost use Rattle.arm.specs.Topology.{joint_frame, actives_of, active_numbers};
 
-use arm::joint::Motion;
-use arm::model::{Link, Model};
-use arm::{model, topology};
+use crate::joint::Motion;
+use crate::model::{Link, Model};
+use crate::{model, topology};
 use spatial::frame::Frame;
 
 // A model that passed refusal 9's test, its active numbers, and as many numbers of q as it has active joints.
