@@ -215,10 +215,10 @@ whole-entries =
 pub marked-stands : MarksKeep whole.Post stands.Post
     (λ κs a. (a.0, a.1.0.now, a.1.1.0.now.q.now))
     (λ κs r e. (r.outcome, e.1.1.1.1.0.now))
-    (λ κs c. (c.0, c.1.0.now.n, c.1.0.now.parents, c.1.0.now.kinds, c.1.1.0.now))
+    (λ κs c. (c.0, c.1.0.now.n, c.1.0.now.parents.now, c.1.0.now.kinds.now, c.1.1.0.now))
     (λ κs v g. (v, g.1.1.1.0.now))
 marked-stands κs λs μs a b c r s v e f g p q w mode mode' d d' tells u u' =
-    told-marked mode mode' _ _ _ _ _ _ (c.0, c.1.0.now.n, c.1.0.now.parents, c.1.0.now.kinds, c.1.1.0.now) _ (whole-made a.0 mode _ _ _ _ p d u) (whole-made b.0 mode' _ _ _ _ q d' u') w tells
+    told-marked mode mode' _ _ _ _ _ _ (c.0, c.1.0.now.n, c.1.0.now.parents.now, c.1.0.now.kinds.now, c.1.1.0.now) _ (whole-made a.0 mode _ _ _ _ p d u) (whole-made b.0 mode' _ _ _ _ q d' u') w tells
 
 -- ---- and the plain one's
 
@@ -243,7 +243,7 @@ plain-matrix-entries =
 pub plain-marked-stands : MarksKeep plain.Post stands.Post
     (λ κs a. (Matrix a.0, a.1.0.now, a.1.1.0.now))
     (λ κs r e. (r, e.1.1.1.0.now))
-    (λ κs c. (c.0, c.1.0.now.n, c.1.0.now.parents, c.1.0.now.kinds, c.1.1.0.now))
+    (λ κs c. (c.0, c.1.0.now.n, c.1.0.now.parents.now, c.1.0.now.kinds.now, c.1.1.0.now))
     (λ κs v g. (v, g.1.1.1.0.now))
 plain-marked-stands κs λs μs a b c r s v e f g p q w mode mode' d d' tells u u' =
-    told-marked mode mode' _ _ _ _ _ _ (c.0, c.1.0.now.n, c.1.0.now.parents, c.1.0.now.kinds, c.1.1.0.now) _ (plain-made a.0 mode _ _ _ p d u) (plain-made b.0 mode' _ _ _ q d' u') w tells
+    told-marked mode mode' _ _ _ _ _ _ (c.0, c.1.0.now.n, c.1.0.now.parents.now, c.1.0.now.kinds.now, c.1.1.0.now) _ (plain-made a.0 mode _ _ _ p d u) (plain-made b.0 mode' _ _ _ q d' u') w tells

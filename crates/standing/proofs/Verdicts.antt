@@ -88,9 +88,9 @@ module _ (floating : Bool) (n : ℕ) (parents kinds : List ℕ) (c : Changes) (m
     is-plan : p ≡ plan_of floating n kinds
     is-plan = ep ∙ ap (plan_by floating n) ea
 
-    pub fitting : (numbers : List ℕ) → numbers ≡ active_numbers kinds → Fit p parents kinds numbers × (n ≡ p.n) × (length marks ≡ p.side * p.side)
+    pub fitting : (numbers : List ℕ) → numbers ≡ active_numbers kinds → Fit p parents kinds numbers × (length marks ≡ p.side * p.side)
     unfolding plan_by
-    fitting numbers d = rw is-plan (fits floating n parents kinds good numbers d, refl, sized floating n parents kinds (length marks) (sym ev ∙ e))
+    fitting numbers d = rw is-plan (fits floating n parents kinds good numbers d, sized floating n parents kinds (length marks) (sym ev ∙ e))
 
     rule-same : (J I : ℕ) → J < n → stands_by n parents kinds composites c.frames c.axes c.rotors J I ≡ stands_between n parents kinds c J I
     unfolding stands_by stands_between

@@ -3,54 +3,65 @@ ghost use Rattle.std.specs.Prelude.{◌≡◌, ◌*◌, ◌≤◌, ◌<◌, leng
 ghost use Rattle.arm.specs.Model.{Good};
 ghost use Rattle.arm.specs.Topology.{actives_of, active_numbers};
 ghost use Rattle.calls.specs.Plan.{Fit};
+ghost use Rattle.plain_matrix.specs.PlainMatrix.{joint_with};
 ghost use Rattle.standing.specs.Standing.{joint_mark, mark_at, marks_of, stands_by};
 
 use crate::changes::Changes;
+use crate::joints::Joints;
 use crate::touched;
-use arm::model::Model;
+use arm::topology;
 use calls::plan::Plan;
-use plain_matrix::matrix;
+
+// The joint of active number k.
+#[tactic(auto, using(plain_matrix::proofs::Roots::joint_found, arm::proofs::topology::Counts::bounds), unfolding(plain_matrix::specs::PlainMatrix::joint_with))]
+fn joint_with(joints: &Joints, numbers: &[u8; 33], k: usize) -> usize
+    requires { let t = joints.now in (numbers.now ≡ active_numbers t.kinds.now) × (t.n ≤ 32) × (k < actives_of t.kinds.now t.n) }
+    ensures { let t = joints.now in (result ≡ joint_with t.kinds.now t.n k) × (result < t.n) }
+{
+    topology::active_joint(joints.kinds, numbers, joints.n, k).unwrap_or(0)
+}
 
 // The entry of two active numbers: the higher one is the column's.
 #[tactic(auto, unfolding(crate::specs::Standing::joint_mark))]
-fn joint_mark<'a>(
-    model: &'a Model,
-    numbers: &'a [u8; 33],
-    changes: &'a Changes,
-    composites: &'a [bool; 33],
+fn joint_mark(
+    joints: &Joints,
+    numbers: &[u8; 33],
+    changes: &Changes,
+    composites: &[bool; 33],
     row: usize,
     column: usize,
 ) -> bool
-    requires { let m = model.now in Good m.n m.parents m.kinds × (numbers.now ≡ active_numbers m.kinds) × (row < actives_of m.kinds m.n) × (column < actives_of m.kinds m.n) }
-    ensures { let m = model.now in let c = changes.now in result ≡ joint_mark m.n m.kinds (stands_by m.n m.parents m.kinds composites.now c.frames c.axes c.rotors) row column }
+    requires { let t = joints.now in Good t.n t.parents.now t.kinds.now × (numbers.now ≡ active_numbers t.kinds.now) × (row < actives_of t.kinds.now t.n) × (column < actives_of t.kinds.now t.n) }
+    ensures { let t = joints.now in let c = changes.now in result ≡ joint_mark t.n t.kinds.now (stands_by t.n t.parents.now t.kinds.now composites.now c.frames c.axes c.rotors) row column }
 {
-    let i = matrix::joint_with(model, numbers, row);
-    let j = matrix::joint_with(model, numbers, column);
+    let i = joint_with(joints, numbers, row);
+    let j = joint_with(joints, numbers, column);
     if column < row {
-        return touched::stands_between(model, changes, composites, i, j);
+        return touched::stands_between(joints, changes, composites, i, j);
     }
-    touched::stands_between(model, changes, composites, j, i)
+    touched::stands_between(joints, changes, composites, j, i)
 }
 
-// Any entry.
+// Any entry; n is the plan's.
 #[tactic(auto, unfolding(crate::specs::Standing::mark_at))]
-fn mark_at<'a>(
+fn mark_at(
     p: Plan,
-    model: &'a Model,
-    numbers: &'a [u8; 33],
-    changes: &'a Changes,
-    composites: &'a [bool; 33],
+    joints: &Joints,
+    numbers: &[u8; 33],
+    changes: &Changes,
+    composites: &[bool; 33],
     row: usize,
     column: usize,
 ) -> bool
-    requires { let m = model.now in Fit p m.parents m.kinds numbers.now × (m.n ≡ p.n) × (row < p.side) × (column < p.side) }
-    ensures { let m = model.now in let c = changes.now in result ≡ mark_at p m.kinds (stands_by p.n m.parents m.kinds composites.now c.frames c.axes c.rotors) row column }
+    requires { let t = joints.now in Fit p t.parents.now t.kinds.now numbers.now × (row < p.side) × (column < p.side) }
+    ensures { let t = joints.now in let c = changes.now in result ≡ mark_at p t.kinds.now (stands_by p.n t.parents.now t.kinds.now composites.now c.frames c.axes c.rotors) row column }
 {
     if row < p.lead || column < p.lead {
         return false;
     }
+    let planned = Joints { n: p.n, ..*joints };
     joint_mark(
-        model,
+        &planned,
         numbers,
         changes,
         composites,
@@ -60,21 +71,21 @@ fn mark_at<'a>(
 }
 
 // Every mark is written.
-pub fn put_marks<'a>(
+pub fn put_marks(
     p: Plan,
-    model: &'a Model,
-    numbers: &'a [u8; 33],
-    changes: &'a Changes,
-    composites: &'a [bool; 33],
+    joints: &Joints,
+    numbers: &[u8; 33],
+    changes: &Changes,
+    composites: &[bool; 33],
     marks: &mut [bool],
 )
-    requires { let m = model.now in Fit p m.parents m.kinds numbers.now × (m.n ≡ p.n) × (length marks.old ≡ p.side * p.side) }
-    ensures { let m = model.now in let c = changes.now in marks.new ≡ marks_of p m.kinds (stands_by p.n m.parents m.kinds composites.now c.frames c.axes c.rotors) }
+    requires { let t = joints.now in Fit p t.parents.now t.kinds.now numbers.now × (length marks.old ≡ p.side * p.side) }
+    ensures { let t = joints.now in let c = changes.now in marks.new ≡ marks_of p t.kinds.now (stands_by p.n t.parents.now t.kinds.now composites.now c.frames c.axes c.rotors) }
 {
     for (t, mark) in marks.iter_mut().enumerate() {
         *mark = mark_at(
             p,
-            model,
+            joints,
             numbers,
             changes,
             composites,

@@ -10,6 +10,7 @@ use readings::read::next_flag;
 use refusals::Refusal;
 use replies::{error, put_refused};
 use standing::changes::Changes;
+use standing::joints::Joints;
 use standing::{marks_room, stands};
 use words::list::number_buffer;
 use words::read::Words;
@@ -86,9 +87,14 @@ fn answer(m: Model, floating: bool, changes: &Changes, text: &mut [u8], at: usiz
     requires { at + room ≤ length text.old }
     ensures { (at ≤ result) × (result ≤ at + room) × (take result text.new ≡ take at text.old ++ stands_line m floating changes.now) }
 {
+    let joints = Joints {
+        n: m.n,
+        parents: &m.parents,
+        kinds: &m.kinds,
+    };
     let mut marks = mark_buffer();
-    let count = marks_room(floating, &m);
-    let v = stands(floating, &m, changes, &mut marks[..count]);
+    let count = marks_room(floating, &joints);
+    let v = stands(floating, &joints, changes, &mut marks[..count]);
     put_stands(text, at, v, &marks[..count])
 }
 

@@ -6,7 +6,7 @@ use Rattle.standing.proofs.marks.put_marks.Invariants.{}
 use Rattle.standing.proofs.marks.put_marks.Goals as goal
 
 pub loop-t-init : goal.loop-t-init
-loop-t-init c = none _ _ _ c.requires.2 zero-le
+loop-t-init c = none _ _ _ c.requires.1 zero-le
 
 pub loop-t-preserved : goal.loop-t-preserved
 loop-t-preserved c = more _ _ _ _ _ c.loop-t.invariant (omega arith) c.mark_at.ensures

@@ -12,7 +12,7 @@ loop-x-init c = gathers-begin _ _
 
 pub loop-x-preserved : goal.loop-x-preserved
 loop-x-preserved c =
-    let P = parent_of c.args.model.now.parents in
+    let P = parent_of c.args.joints.now.parents.now in
     let up = P c.loop-x.x in
     let g = c.loop-x.invariant in
     elim c.if-reframed_at.branch [
@@ -21,4 +21,4 @@ loop-x-preserved c =
     ]
 
 pub returns : goal.returns
-returns c = gathers-end _ _ _ _ c.loop-x.invariant 33 c.args.model.now.n c.requires.1 (omega arith)
+returns c = gathers-end _ _ _ _ c.loop-x.invariant 33 c.args.joints.now.n c.requires.1 (omega arith)

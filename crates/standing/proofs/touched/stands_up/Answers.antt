@@ -12,7 +12,7 @@ loop-at-init c = (c.requires.1, refl)
 pub returns-then-up-eq0 : goal.returns-then-up-eq0
 returns-then-up-eq0 c =
     let a = c.args in
-    up_root a.model.now.n a.model.now.parents a.model.now.kinds a.changes.now.frames a.changes.now.axes c.requires.0 a.i c.loop-at.at c.loop-at.invariant.0 c.loop-at-test.true c.loop-at.known (sym c.parent_at-up.ensures.0 ∙ c.if-up-eq0.true) ∙ c.loop-at.invariant.1
+    up_root a.joints.now.n a.joints.now.parents.now a.joints.now.kinds.now a.changes.now.frames a.changes.now.axes c.requires.0 a.i c.loop-at.at c.loop-at.invariant.0 c.loop-at-test.true c.loop-at.known (sym c.parent_at-up.ensures.0 ∙ c.if-up-eq0.true) ∙ c.loop-at.invariant.1
 
 pub loop-at-preserved : goal.loop-at-preserved
 loop-at-preserved c =
@@ -26,4 +26,4 @@ loop-at-preserved c =
 pub returns : goal.returns
 returns c =
     let a = c.args in
-    up-here a.model.now.n a.model.now.parents a.model.now.kinds a.changes.now.frames a.changes.now.axes c.requires.0 a.i c.loop-at.at c.loop-at.invariant.0 c.loop-at.known c.loop-at-test.false ∙ c.loop-at.invariant.1
+    up-here a.joints.now.n a.joints.now.parents.now a.joints.now.kinds.now a.changes.now.frames a.changes.now.axes c.requires.0 a.i c.loop-at.at c.loop-at.invariant.0 c.loop-at.known c.loop-at-test.false ∙ c.loop-at.invariant.1
