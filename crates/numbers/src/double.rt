@@ -1,6 +1,10 @@
-// Doubles one by one, and slices of them.
+// Doubles one by one, their patterns, and slices of them.
 ghost use Rattle.std.specs.Prelude.{◌≡◌, ◌&&◌};
+ghost use Rattle.std.specs.Float.{binary64};
+ghost use Rattle.std.specs.Float.Ieee.{of_bits, to_bits};
 ghost use Rattle.numbers.specs.Double.{finite, abs_of, max_of, all_finite, amax_of};
+
+use std::num::{f64_from_bits_with_nan, f64_to_bits_with_nan};
 
 pub fn both(a: bool, b: bool) -> bool
     ensures { result ≡ (a && b) }
@@ -28,6 +32,20 @@ pub fn max(a: f64, b: f64) -> f64
     ensures { result ≡ max_of a b }
 {
     if a < b { b } else { a }
+}
+
+// The double of a pattern. Every pattern above infinity's, the sign aside, is NaN.
+pub fn double_of(bits: u64) -> f64
+    ensures { result ≡ of_bits binary64 bits }
+{
+    f64_from_bits_with_nan(bits)
+}
+
+// The pattern of a double. A NaN has one here.
+pub fn bits_of(x: f64) -> u64
+    ensures { result ≡ to_bits binary64 x }
+{
+    f64_to_bits_with_nan(x)
 }
 
 pub fn all_finite(v: &[f64]) -> bool
