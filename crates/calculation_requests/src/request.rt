@@ -24,7 +24,7 @@ use writings::write::put_made;
 
 // What is made on a workspace and an output of so many numbers, as text.
 fn answer(
-    m: Model,
+    m: &Model,
     how: How,
     c: Calculation,
     inputs: &Buffers,
@@ -34,7 +34,7 @@ fn answer(
     at: usize,
 ) -> usize
     requires { (length budgets.now ≤ 4096) × (sizes.ws ≤ 4096) × (sizes.out ≤ 2048) × (at + room ≤ length text.old) }
-    ensures { (at ≤ result) × (result ≤ at + room) × (take result text.new ≡ take at text.old ++ made_line (made_of how (work_of c m (inputs_of inputs.now)) budgets.now (ones sizes.ws) (ones sizes.out))) }
+    ensures { (at ≤ result) × (result ≤ at + room) × (take result text.new ≡ take at text.old ++ made_line (made_of how (work_of c m.now (inputs_of inputs.now)) budgets.now (ones sizes.ws) (ones sizes.out))) }
 {
     let counts = &mut number_buffer();
     let ws = &mut double_buffer()[..sizes.ws];
@@ -48,7 +48,7 @@ fn answer(
         loaded: inputs.loaded.items(),
         loads: inputs.loads.items(),
     };
-    let last = make(how, c, &m, &inputs, budgets, counts, ws, out);
+    let last = make(how, c, m, &inputs, budgets, counts, ws, out);
     let outcome = last.answer.outcome;
     let counts = &counts[..last.counts];
     put_made(text, at, outcome, counts, ws, out)
@@ -90,7 +90,7 @@ pub fn calculate(m: Model, how: How, k: Kind, words: Words, text: &mut [u8], at:
     let mut inputs = Buffers::new();
     let mut budgets = Buffer::new();
     match next_task(words, how, k, &mut inputs, &mut budgets) {
-        Some((c, sizes)) => answer(m, how, c, &inputs, budgets.items(), sizes, text, at),
+        Some((c, sizes)) => answer(&m, how, c, &inputs, budgets.items(), sizes, text, at),
         None => error(text, at),
     }
 }

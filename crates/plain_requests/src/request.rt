@@ -17,13 +17,13 @@ use words::read::Words;
 use writings::write::put_plain;
 
 // What is made on an output of so many numbers, as text.
-fn answer(m: Model, mode: Mode, q: &[f64], size: usize, text: &mut [u8], at: usize) -> usize
+fn answer(m: &Model, mode: Mode, q: &[f64], size: usize, text: &mut [u8], at: usize) -> usize
     requires { (size ≤ 2048) × (at + room ≤ length text.old) }
-    ensures { (at ≤ result) × (result ≤ at + room) × (take result text.new ≡ take at text.old ++ plain_line (plain_call mode m q.now (ones size))) }
+    ensures { (at ≤ result) × (result ≤ at + room) × (take result text.new ≡ take at text.old ++ plain_line (plain_call mode m.now q.now (ones size))) }
 {
     let out = &mut output_buffer()[..size];
     fill(out);
-    let outcome = plain_matrix(mode, &m, q, out);
+    let outcome = plain_matrix(mode, m, q, out);
     put_plain(text, at, outcome, out)
 }
 
@@ -49,7 +49,7 @@ pub fn plain(m: Model, floating: bool, words: Words, text: &mut [u8], at: usize)
 {
     let mut q = Buffer::new();
     match next_plain(words, floating, &mut q) {
-        Some((mode, out)) => answer(m, mode, q.items(), out, text, at),
+        Some((mode, out)) => answer(&m, mode, q.items(), out, text, at),
         None => error(text, at),
     }
 }

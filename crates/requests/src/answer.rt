@@ -2,7 +2,7 @@
 ghost use Rattle.std.specs.Prelude.{◌≡◌, ◌+◌, ◌≤◌, length, take};
 ghost use Rattle.words.specs.Read.{words_of};
 ghost use Rattle.replies.specs.Replies.{room, reply_of, behind};
-ghost use Rattle.requests.specs.Answer.{name_of, named_request, request_of, answer_of};
+ghost use Rattle.requests.specs.Answer.{name_of, request_of, answer_of};
 
 use arm::model::Model;
 use calculation_requests::request::{calculate, repeat, resume};
@@ -70,11 +70,19 @@ fn name_of(w: &[u8]) -> Option<Name>
     Some(Name::Calculation(kind_of(w)?))
 }
 
-// The answer to the request of this name, from the words behind it.
-fn named(m: Model, name: Name, words: Words, out: &mut [u8], at: usize) -> Reply
+// The answer to the request that the first word names. In one function: a model is copied where it is handed on.
+#[tactic(auto, unfolding(crate::specs::Answer::request_of))]
+fn request(m: Model, line: &[u8], out: &mut [u8], at: usize) -> Reply
     requires { at + room ≤ length out.old }
-    ensures { (at ≤ result.end) × (result.end ≤ at + room) × ((take result.end out.new, result.model) ≡ behind (take at out.old) (reply_of m (named_request m name words.entry))) }
+    ensures { (at ≤ result.end) × (result.end ≤ at + room) × ((take result.end out.new, result.model) ≡ behind (take at out.old) (reply_of m (request_of m (words_of line.now)))) }
 {
+    let mut words = Words::new(line);
+    let Some(name) = words.next_word().and_then(name_of) else {
+        return Reply {
+            end: error(out, at),
+            model: m,
+        };
+    };
     match name {
         Name::Model => model(m, words, out, at),
         Name::Lend => lend(m, words, out, at),
@@ -113,29 +121,14 @@ fn named(m: Model, name: Name, words: Words, out: &mut [u8], at: usize) -> Reply
     }
 }
 
-#[tactic(auto, unfolding(crate::specs::Answer::request_of))]
-fn request(m: Model, line: &[u8], out: &mut [u8], at: usize) -> Reply
-    requires { at + room ≤ length out.old }
-    ensures { (at ≤ result.end) × (result.end ≤ at + room) × ((take result.end out.new, result.model) ≡ behind (take at out.old) (reply_of m (request_of m (words_of line.now)))) }
-{
-    let mut words = Words::new(line);
-    match words.next_word().and_then(name_of) {
-        Some(name) => named(m, name, words, out, at),
-        None => Reply {
-            end: error(out, at),
-            model: m,
-        },
-    }
-}
-
 // Puts the answer to a line, its newline not counted, into `out` from `at` on, and says where it ends and which model is current then.
 #[tactic(auto, unfolding(crate::specs::Answer::answer_of))]
 pub fn answer(m: Model, line: &[u8], out: &mut [u8], at: usize) -> Reply
     requires { at + room ≤ length out.old }
     ensures { (at ≤ result.end) × (result.end ≤ at + room) × ((take result.end out.new, result.model) ≡ behind (take at out.old) (answer_of m line.now)) }
 {
-    match line.first() {
-        None | Some(b'#') => Reply { end: at, model: m },
-        Some(_) => request(m, line, out, at),
+    if let None | Some(b'#') = line.first() {
+        return Reply { end: at, model: m };
     }
+    request(m, line, out, at)
 }

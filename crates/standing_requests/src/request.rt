@@ -83,9 +83,9 @@ fn mark_buffer() -> [bool; 1444]
     [false; 1444]
 }
 
-fn answer(m: Model, floating: bool, changes: &Changes, text: &mut [u8], at: usize) -> usize
+fn answer(m: &Model, floating: bool, changes: &Changes, text: &mut [u8], at: usize) -> usize
     requires { at + room ≤ length text.old }
-    ensures { (at ≤ result) × (result ≤ at + room) × (take result text.new ≡ take at text.old ++ stands_line m floating changes.now) }
+    ensures { (at ≤ result) × (result ≤ at + room) × (take result text.new ≡ take at text.old ++ stands_line m.now floating changes.now) }
 {
     let joints = Joints {
         n: m.n,
@@ -132,7 +132,7 @@ pub fn standing(m: Model, mut words: Words, text: &mut [u8], at: usize) -> usize
     ensures { (at ≤ result) × (result ≤ at + room) × (take result text.new ≡ take at text.old ++ text_of (stands_request m words.entry)) }
 {
     match next_told(m.n as u64, &mut words) {
-        Some((floating, changes)) => answer(m, floating, &changes, text, at),
+        Some((floating, changes)) => answer(&m, floating, &changes, text, at),
         None => error(text, at),
     }
 }
