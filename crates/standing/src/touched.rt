@@ -83,7 +83,7 @@ fn stands_up(joints: &Joints, changes: &Changes, touched: bool, j: usize, i: usi
     let mut known = touched;
     let mut at = j;
     while at != i {
-        known = known || reframed_at(joints, changes, at);
+        known |= reframed_at(joints, changes, at);
         let up = model::parent_at(joints.n, joints.parents, at);
         if up == 0 {
             return true; // i does not carry j

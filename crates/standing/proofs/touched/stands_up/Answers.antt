@@ -1,10 +1,8 @@
 use mathlib.Core.Path.{refl, sym, ◌∙◌}
 use Prim.Native.Nat.{◌-◌}
 use native.Mathlib.Omega.{arith}
-use Rattle.standing.proofs.Flags.{first}
 use Rattle.standing.proofs.Ups.{up-here, up_root, up-on}
 use Rattle.standing.proofs.touched.stands_up.Goals as goal
-use Rattle.standing.proofs.touched.stands_up.Goals.{then-known, else-known}
 
 pub loop-at-init : goal.loop-at-init
 loop-at-init c = (c.requires.1, refl)
@@ -18,8 +16,8 @@ pub loop-at-preserved : goal.loop-at-preserved
 loop-at-preserved c =
     let known = c.loop-at.known in (
       omega (arith, c.parent_at-up.ensures.1, c.loop-at.invariant.0),
-      up-on _ _ _ _ _ c.requires.0 _ _ c.loop-at.invariant.0 c.loop-at-test.true (c.parent_at-up.result - 1) (omega (arith, c.if-up-eq0.false, c.parent_at-up.ensures.0)) known c.if-known.known
-          (elim c.if-known.branch [ then-known w ↦ w.known-is ∙ w.if-known.true ∙ sym (first _ w.if-known.true) | else-known w ↦ rw (w.if-known.false, w.known-is) w.reframed_at-known.ensures ])
+      up-on _ _ _ _ _ c.requires.0 _ _ c.loop-at.invariant.0 c.loop-at-test.true (c.parent_at-up.result - 1) (omega (arith, c.if-up-eq0.false, c.parent_at-up.ensures.0)) known _
+          (rw c.reframed_at-known.ensures refl)
           ∙ c.loop-at.invariant.1,
     )
 
