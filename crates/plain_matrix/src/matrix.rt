@@ -5,7 +5,6 @@ ghost use Rattle.arm.specs.Topology.{actives_of, active_numbers};
 ghost use Rattle.plain_entries.specs.Arm.{arm_of};
 ghost use Rattle.plain_matrix.specs.PlainMatrix.{joint_with, joint_entry, base_entry, corner_entry, entry_at, plain_number, plain_entries};
 
-use arm::model::Model;
 use arm::posed::Posed;
 use arm::topology;
 use calls::plan::Plan;
@@ -16,11 +15,11 @@ use plain_entries::{entries, gather};
 
 // The joint of active number k.
 #[tactic(auto, using(crate::proofs::Roots::joint_found, arm::proofs::topology::Counts::bounds), unfolding(crate::specs::PlainMatrix::joint_with))]
-pub fn joint_with<'a>(model: &'a Model, numbers: &'a [u8; 33], k: usize) -> usize
-    requires { let m = model.now in (numbers.now ≡ active_numbers m.kinds) × (m.n ≤ 32) × (k < actives_of m.kinds m.n) }
-    ensures { (result ≡ joint_with model.now.kinds model.now.n k) × (result < model.now.n) }
+pub fn joint_with<'a>(kinds: &'a [u8; 32], numbers: &'a [u8; 33], n: usize, k: usize) -> usize
+    requires { (numbers.now ≡ active_numbers kinds.now) × (n ≤ 32) × (k < actives_of kinds.now n) }
+    ensures { (result ≡ joint_with kinds.now n k) × (result < n) }
 {
-    topology::active_joint(&model.kinds, numbers, model.n, k).unwrap_or(0)
+    topology::active_joint(kinds, numbers, n, k).unwrap_or(0)
 }
 
 // The entry of two active numbers: the higher one is the column's.
@@ -29,8 +28,8 @@ fn joint_entry(arm: &Posed, row: usize, column: usize) -> f64
     requires { let a = actives_of arm.now.model.now.kinds arm.now.model.now.n in (row < a) × (column < a) }
     ensures { result ≡ joint_entry (arm_of arm.now.model.now arm.now.q.now) arm.now.model.now.kinds row column }
 {
-    let i = joint_with(arm.model, arm.numbers, row);
-    let j = joint_with(arm.model, arm.numbers, column);
+    let i = joint_with(&arm.model.kinds, arm.numbers, arm.model.n, row);
+    let j = joint_with(&arm.model.kinds, arm.numbers, arm.model.n, column);
     if column < row {
         return entries::between(arm, i, j);
     }
@@ -43,7 +42,7 @@ fn base_entry(arm: &Posed, r: Quaternion, k: usize, c: usize) -> f64
     requires { (k < 6) × (c < actives_of arm.now.model.now.kinds arm.now.model.now.n) }
     ensures { result ≡ base_entry (arm_of arm.now.model.now arm.now.q.now) r arm.now.model.now.kinds k c }
 {
-    let j = joint_with(arm.model, arm.numbers, c);
+    let j = joint_with(&arm.model.kinds, arm.numbers, arm.model.n, c);
     let v = entries::root_answer(arm, j).rotated(r).to_vector();
     v[k]
 }

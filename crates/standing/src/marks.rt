@@ -3,23 +3,13 @@ ghost use Rattle.std.specs.Prelude.{◌≡◌, ◌*◌, ◌≤◌, ◌<◌, leng
 ghost use Rattle.arm.specs.Model.{Good};
 ghost use Rattle.arm.specs.Topology.{actives_of, active_numbers};
 ghost use Rattle.calls.specs.Plan.{Fit};
-ghost use Rattle.plain_matrix.specs.PlainMatrix.{joint_with};
 ghost use Rattle.standing.specs.Standing.{joint_mark, mark_at, marks_of, stands_by};
 
 use crate::changes::Changes;
 use crate::joints::Joints;
 use crate::touched;
-use arm::topology;
 use calls::plan::Plan;
-
-// The joint of active number k.
-#[tactic(auto, using(plain_matrix::proofs::Roots::joint_found, arm::proofs::topology::Counts::bounds), unfolding(plain_matrix::specs::PlainMatrix::joint_with))]
-fn joint_with(joints: &Joints, numbers: &[u8; 33], k: usize) -> usize
-    requires { let t = joints.now in (numbers.now ≡ active_numbers t.kinds.now) × (t.n ≤ 32) × (k < actives_of t.kinds.now t.n) }
-    ensures { let t = joints.now in (result ≡ joint_with t.kinds.now t.n k) × (result < t.n) }
-{
-    topology::active_joint(joints.kinds, numbers, joints.n, k).unwrap_or(0)
-}
+use plain_matrix::matrix;
 
 // The entry of two active numbers: the higher one is the column's.
 #[tactic(auto, unfolding(crate::specs::Standing::joint_mark))]
@@ -34,8 +24,8 @@ fn joint_mark(
     requires { let t = joints.now in Good t.n t.parents.now t.kinds.now × (numbers.now ≡ active_numbers t.kinds.now) × (row < actives_of t.kinds.now t.n) × (column < actives_of t.kinds.now t.n) }
     ensures { let t = joints.now in let c = changes.now in result ≡ joint_mark t.n t.kinds.now (stands_by t.n t.parents.now t.kinds.now composites.now c.frames c.axes c.rotors) row column }
 {
-    let i = joint_with(joints, numbers, row);
-    let j = joint_with(joints, numbers, column);
+    let i = matrix::joint_with(joints.kinds, numbers, joints.n, row);
+    let j = matrix::joint_with(joints.kinds, numbers, joints.n, column);
     if column < row {
         return touched::stands_between(joints, changes, composites, i, j);
     }
